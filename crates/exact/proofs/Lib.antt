@@ -1,0 +1,21 @@
+pub mod Signed
+pub mod Root
+pub mod Quotients
+pub mod LnSeries
+pub mod ExpSeries
+pub mod SineSeries
+pub mod LnLip
+pub mod LnWhole
+pub mod ExpLip
+pub mod ExpWhole
+pub mod Computed
+pub mod RelLaws
+pub mod NearLaws
+pub mod LnExact
+pub mod ExpExact
+pub mod MoreTerms
+pub mod Degrees
+pub mod TwoScales
+pub mod LnRatio
+pub mod Rounding
+mod Known

@@ -1,0 +1,4 @@
+pub mod Series
+pub mod Root
+pub mod Exact
+pub mod Near

@@ -1,0 +1,124 @@
+-- `reckon::ln::ln_ratio` meets its contract: at each turn the terms passed and the series from here on make the whole series.
+-- Assumes nothing.
+use Prim.Native.Nat.{ℕ, _+_, _-_, _*_, _/_, _≤_, _<_}
+use mathlib.Core.Path.{_≡_, sym, ap, _∙_}
+use native.Mathlib.Nat.{le-trans, zero-add, add-zero}
+use native.Mathlib.Omega.{arith}
+use lib.Dec.{lit≤}
+use Rattle.exact.specs.Series.{lnTerms}
+use Rattle.reckon.specs.Fixed.{E10, lnRatio}
+use Rattle.exact.proofs.Quotients.{mul-small}
+use Rattle.reckon.proofs.Fitting.{mul-fits}
+use Rattle.exact.proofs.LnSeries.{below-third}
+use Rattle.reckon.proofs.LnTerms.{ln-term, ln-most}
+use Rattle.reckon.proofs.ln.ln_ratio.Statement.{statement}
+use Rattle.reckon.proofs.ln.ln_ratio.Tie as tie
+
+-- a third, in units of 10^-10
+abbrev third : ℕ
+third = E10 / 3
+
+record Inv (z w p d sum n : ℕ) : Type 0 where
+  p-le : p ≤ third
+  d-pos : 1 ≤ d
+  d-le : d + 2 * n ≤ 100
+  whole : sum + lnTerms E10 w p d n ≡ lnTerms E10 w z 1 10
+
+abbrev Inv-loop : tie.InvT-loop
+Inv-loop p q z square power₀ odd₀ sum₀ left₀ power odd sum left = Inv z square power odd sum left
+
+abbrev μ-loop : tie.MeasureT-loop
+μ-loop p q z square power₀ odd₀ sum₀ left₀ power odd sum left = left
+
+square-le : {z : ℕ} → z ≤ third → z * z / E10 ≤ third
+square-le {z} h = le-trans (mul-small E10 z (omega arith)) h
+
+step :
+    (z w p d sum n : ℕ) → w ≤ third → 0 < n → Inv z w p d sum n → Inv z w (p * w / E10) (d + 2) (sum + p / d) (n - 1)
+step z w p d sum n h k v =
+    let next : p * w / E10 ≤ p = mul-small E10 p (omega arith) in
+    let term = ln-term E10 w p d n k in
+    record { p-le = omega arith; d-pos = omega arith; d-le = omega arith; whole = omega arith }
+
+-- the sum with the next term is at most the whole
+sum-le : (z w p d sum n : ℕ) → 0 < n → Inv z w p d sum n → sum + p / d ≤ lnTerms E10 w z 1 10
+sum-le z w p d sum n k v = omega (arith, ln-term E10 w p d n k)
+
+done : (z w p d sum n : ℕ) → n ≡ 0 → Inv z w p d sum n → sum ≡ lnTerms E10 w z 1 10
+unfolding lnTerms
+done z w p d sum n e v = sym (add-zero sum) ∙ ap (λ (j : ℕ). sum + lnTerms E10 w p d j) (sym e) ∙ v .whole
+
+z-le : (c : tie.Start Inv-loop μ-loop) → (c .args .p - c .args .q) * E10 / (c .args .p + c .args .q) ≤ third
+z-le c = below-third E10 _ _ (omega arith) (omega arith)
+
+sub-z : tie.Need-sub-z Inv-loop μ-loop
+sub-z c = omega arith
+
+mul-z : tie.Need-mul-z Inv-loop μ-loop
+mul-z c = omega arith
+
+add-z : tie.Need-add-z Inv-loop μ-loop
+add-z c = omega arith
+
+div-z : tie.Need-div-z Inv-loop μ-loop
+div-z c = omega arith
+
+mul-square : tie.Need-mul-square Inv-loop μ-loop
+mul-square c = mul-fits third third (z-le c) (z-le c) tt
+
+loop-holds : tie.Need-loop-holds Inv-loop μ-loop
+loop-holds c = record { p-le = z-le c; d-pos = lit≤ tt; d-le = lit≤ tt; whole = zero-add _ }
+
+div-sum : tie.Need-div-sum Inv-loop μ-loop
+div-sum c = c .before .loop .inv .d-pos
+
+add-sum : tie.Need-add-sum Inv-loop μ-loop
+add-sum c =
+    let l = c .before .loop in
+    omega (arith, sum-le _ _ _ _ _ _ (c .loop-test .taken) (l .inv), ln-most (z-le (c .before .before)))
+
+mul-power : tie.Need-mul-power Inv-loop μ-loop
+mul-power c = mul-fits third third (c .before .loop .inv .p-le) (square-le (z-le (c .before .before))) tt
+
+add-odd : tie.Need-add-odd Inv-loop μ-loop
+add-odd c = omega (arith, c .before .loop .inv .d-le)
+
+sub-left : tie.Need-sub-left Inv-loop μ-loop
+sub-left c = c .loop-test .taken
+
+loop-less : tie.Need-loop-less Inv-loop μ-loop
+loop-less c = omega arith
+
+loop-again : tie.Need-loop-again Inv-loop μ-loop
+loop-again c = step _ _ _ _ _ _ (square-le (z-le (c .before .before))) (c .loop-test .taken) (c .before .loop .inv)
+
+mul-result : tie.Need-mul-result Inv-loop μ-loop
+mul-result c = omega (arith, done _ _ _ _ _ _ (omega arith) (c .before .loop .inv), ln-most (z-le (c .before .before)))
+
+returns : tie.Need-returns Inv-loop μ-loop
+unfolding lnRatio
+returns c =
+    let e = done _ _ _ _ _ _ (omega arith) (c .before .loop .inv) in
+    (ap (λ (s : ℕ). 2 * s) e, omega (arith, e, ln-most (z-le (c .before .before))))
+
+pub ln-ratio-spec : {M : Type 1} → statement M
+ln-ratio-spec =
+    tie.close
+    (tie.spec
+    Inv-loop
+    μ-loop
+    sub-z
+    mul-z
+    add-z
+    div-z
+    mul-square
+    loop-holds
+    div-sum
+    add-sum
+    mul-power
+    add-odd
+    sub-left
+    loop-less
+    loop-again
+    mul-result
+    returns)

@@ -1,0 +1,64 @@
+// The natural logarithm of a fixed-point number and of a quotient of two whole numbers.
+ghost use mathlib.Core.Path.{_≡_};
+ghost use Prim.Native.Nat.{_*_, _≤_, _<_};
+ghost use lib.IntN.{ℤ};
+ghost use Rattle.reckon.specs.Fixed.{E9, lnRatio, lnFixed, lnQuotient};
+
+// One, in units of 10^-9 and of 10^-10.
+const E9: u64 = 1_000_000_000;
+
+const E10: u64 = 10_000_000_000;
+
+// ln 2 in units of 10^-10, and ln 8 in units of 10^-9.
+const LN2: u64 = 6_931_471_805;
+
+const LN8: i64 = 2_079_441_541;
+
+// ln (p/q), p/q from 1 to 2, in units of 10^-10: ten terms of 2 (z + z^3/3 + ..), z = (p-q)/(p+q).
+fn ln_ratio(p: u64, q: u64) -> u64
+    requires { ⌜ (1 ≤ q) × (q ≤ E9) × (q ≤ p) × (p ≤ 2 * q) ⌝ }
+    ensures { λ r. ⌜ (r ≡ lnRatio p q) × (r ≤ 7000000000) ⌝ }
+{
+    let z = (p - q) * E10 / (p + q);
+    let square = z * z / E10;
+    let mut power = z;
+    let mut odd: u64 = 1;
+    let mut sum: u64 = 0;
+    let mut left: u64 = 10;
+    while left > 0 {
+        sum += power / odd;
+        power = power * square / E10;
+        odd += 2;
+        left -= 1;
+    }
+    2 * sum
+}
+
+// ln x, from 1/8 up. Three powers of two are put in first, so that no sign comes up before the end.
+pub fn ln_fixed(x: u64) -> i64
+    requires { ⌜ (E9 ≤ 8 * x) × (x < 65536 * E9) ⌝ }
+    ensures { λ r. ⌜ r ≡ lnFixed x ⌝ }
+{
+    let mut y = 8 * x;
+    let mut twos: u64 = 0;
+    while 2 * E9 <= y {
+        y /= 2;
+        twos += 1;
+    }
+    ((twos * LN2 + ln_ratio(y, E9)) / 10) as i64 - LN8
+}
+
+// ln (p/q), p/q from 1/8 to 8.
+pub fn ln_quotient(p: u64, q: u64) -> i64
+    requires { ⌜ (1 ≤ q) × (q ≤ 1000000) × (q ≤ 8 * p) × (p ≤ 8 * q) ⌝ }
+    ensures { λ r. ⌜ r ≡ lnQuotient p q ⌝ }
+{
+    let top = 8 * p;
+    let mut bottom = q;
+    let mut twos: u64 = 0;
+    while 2 * bottom <= top {
+        bottom *= 2;
+        twos += 1;
+    }
+    ((twos * LN2 + ln_ratio(top, bottom)) / 10) as i64 - LN8
+}
