@@ -1,7 +1,7 @@
 -- Twenty values of the definitions, each equal to the last digit to what second/exact.py, document 01's paragraph written anew, gives;
 -- a negative number -n is written `negsuc (n - 1)`. Assumes nothing.
 use mathlib.Core.Bool.{Bool, true, _&&_}
-use mathlib.Core.List.{List, _∷_}
+use mathlib.Core.List.{List, [], _∷_}
 use lib.Dec.{T, leb}
 use lib.IntN.{ℤ, pos, negsuc, natAbs, _-ℤ_}
 use Rattle.exact.specs.Exact.{lnE, expE, powE, tenE, sinE, cosE, rootE}

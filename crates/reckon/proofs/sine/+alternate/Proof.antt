@@ -1,6 +1,6 @@
 -- `reckon::sine::alternate` meets its contract: the rest of the series is at most the present term, so no difference is negative.
 -- The measure is the number of terms. Assumes nothing.
-use Prim.Native.Nat.{ℕ, _*_, zero-le}
+use Prim.Native.Nat.{ℕ, _*_, _<_, zero-le}
 use mathlib.Core.Path.{_≡_, sym, ap, _∙_}
 use native.Mathlib.Nat.{le-trans, mul-pos, sub-le}
 use native.Mathlib.Omega.{arith}
