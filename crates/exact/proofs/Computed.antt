@@ -4,7 +4,7 @@ use mathlib.Core.Path.{_≡_, subst}
 use mathlib.Core.Bool.{Bool, true, _&&_}
 use native.Mathlib.Nat.{not-suc-le-zero}
 use native.Mathlib.Omega.{arith}
-use lib.Dec.{T}
+use lib.Dec.{T, leb, leb→le}
 use lib.Ieee.Fits.{and-l, and-r}
 
 -- the test f passes at i, i + 1, .., n of them
@@ -26,3 +26,7 @@ pub run-from : (f : ℕ → Bool) (i n : ℕ) → T (run f i n) → (k : ℕ) �
 run-from f i n t k l h =
     let e : i + (k - i) ≡ k = omega arith in
     subst (λ (m : ℕ). T (f m)) e (run-at f i n t (k - i) (omega arith))
+
+-- the first of a chain of orders, and the rest
+pub order-first : (a b : ℕ) (rest : Bool) → T (leb a b && rest) → (a ≤ b) × T rest
+order-first a b rest t = (leb→le a b (and-l (leb a b) rest t), and-r (leb a b) rest t)

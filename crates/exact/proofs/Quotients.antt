@@ -1,7 +1,8 @@
 -- What the library lacks about quotients, and products and quotients at two scales, S and S * K. Assumes nothing.
-use Prim.Native.Nat.{ℕ, zero, suc, _*_, _/_, _≤_, _<_}
-use mathlib.Core.Path.{_≡_, sym, _∙_}
-use native.Mathlib.Nat.{le-trans, le-of-eq, zero-lt-suc, div-zero, div-mul-le-self, le-div-iff-mul-le, div-le-of-le-mul, le-of-mul-le-mul-right, mul-le-mul, mul-le-mul-left, mul-le-mul-right, mul-assoc, mul-comm, mul-left-comm, mul-pos}
+use Prim.Native.Nat.{ℕ, zero, suc, _+_, _-_, _*_, _/_, _≤_, _<_}
+use mathlib.Core.Path.{_≡_, sym, ap, _∙_}
+use native.Mathlib.Omega.{arith}
+use native.Mathlib.Nat.{le-trans, le-of-eq, zero-lt-suc, div-zero, div-mul-le-self, le-div-iff-mul-le, div-le-of-le-mul, le-of-mul-le-mul-right, mul-le-mul, mul-le-mul-left, mul-le-mul-right, mul-assoc, mul-comm, mul-left-comm, mul-sub, mul-pos, add-mul, lt-div-mul-add}
 
 -- a quotient grows with its dividend
 pub div-le : (d : ℕ) {a b : ℕ} → a ≤ b → a / d ≤ b / d
@@ -50,3 +51,12 @@ quot-below d K p hd h =
 pub quot-above : (d K P c : ℕ) {p' : ℕ} → p' ≤ P * K → P ≤ c * d → p' / d ≤ c * K
 quot-above d K P c hp h =
     div-le-of-le-mul d (le-trans hp (le-trans (mul-le-mul-right K h) (le-of-eq (simp (mul-assoc, mul-comm)))))
+
+-- a quotient and one more is not below
+pub over-quot : (p d : ℕ) → 0 < d → p ≤ (p / d + 1) * d
+over-quot p d h = omega (arith, add-mul (p / d) 1 d, lt-div-mul-add {a = p} {b = d} h)
+
+-- a factor of a difference
+pub sub-mul : (a b c : ℕ) → (a - b) * c ≡ a * c - b * c
+sub-mul a b c =
+    mul-comm (a - b) c ∙ mul-sub c a b ∙ ap (λ (t : ℕ). t - c * b) (mul-comm c a) ∙ ap (λ (t : ℕ). a * c - t) (mul-comm c b)

@@ -1,7 +1,7 @@
 // A request: thirteen fields, each given with its number or blank, and the tests that look at one
 // field alone. Nothing here knows an estimate or the model.
 ghost use mathlib.Core.Path.{_≡_};
-ghost use lib.IntN.{ℤ};
+ghost use lib.IntN.{ℤ, pos};
 ghost use Rattle.request.specs.Fields.{within, allowed, isBlank, sizeOf, valueOf};
 ghost use Rattle.request.specs.Styles.{styleOf, topMagnitude};
 
@@ -106,13 +106,23 @@ pub fn style_of(rake: i64) -> Style
     }
 }
 
-// The largest magnitude of a style, in hundredths.
-pub fn top_magnitude(s: Style) -> i64
-    ensures { λ r. ⌜ r ≡ topMagnitude s ⌝ }
+// The style of a request by its rake.
+pub fn style_by_rake(f: Field) -> Style
+    ensures { λ r. ⌜ r ≡ styleOf (valueOf f) ⌝ }
+{
+    let Field::Given(rake) = f else {
+        return Style::StrikeSlip;
+    };
+    style_of(rake)
+}
+
+// Whether the magnitude, in hundredths, is given and lies in the range of its style.
+pub fn is_magnitude(f: Field, s: Style) -> bool
+    ensures { λ r. ⌜ r ≡ within f (pos 400) (topMagnitude s) ⌝ }
 {
     match s {
-        Style::StrikeSlip => 850,
-        Style::Reverse => 800,
-        Style::Normal => 750,
+        Style::StrikeSlip => is_within(f, 400, 850),
+        Style::Reverse => is_within(f, 400, 800),
+        Style::Normal => is_within(f, 400, 750),
     }
 }

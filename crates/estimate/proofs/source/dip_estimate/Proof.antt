@@ -1,8 +1,8 @@
 -- By the three cases. Assumes nothing.
 use borrow.Author.Needs.{needs}
-use Rattle.request.specs.Styles.{topMagnitude}
-use Rattle.request.proofs.top_magnitude.Statement.{statement}
-use Rattle.request.proofs.top_magnitude.Tie as tie
+use Rattle.estimate.specs.Rules.{dipOf}
+use Rattle.estimate.proofs.source.dip_estimate.Statement.{statement}
+use Rattle.estimate.proofs.source.dip_estimate.Tie as tie
 
 enum-told : tie.Need-enum-told
 enum-told c = search needs
@@ -14,16 +14,16 @@ enum-told-3 : tie.Need-enum-told-3
 enum-told-3 c = search needs
 
 returns : tie.Need-returns
-unfolding topMagnitude
+unfolding dipOf
 returns c = rw (c .enum-told .given .1)
 
 returns-2 : tie.Need-returns-2
-unfolding topMagnitude
+unfolding dipOf
 returns-2 c = rw (c .enum-told2 .given .1)
 
 returns-3 : tie.Need-returns-3
-unfolding topMagnitude
+unfolding dipOf
 returns-3 c = rw (c .enum-told3 .given .1)
 
-pub top-magnitude-spec : {M : Type 1} → statement M
-top-magnitude-spec = tie.close (tie.spec enum-told enum-told-2 enum-told-3 returns returns-2 returns-3)
+pub dip-estimate-spec : {M : Type 1} → statement M
+dip-estimate-spec = tie.close (tie.spec enum-told enum-told-2 enum-told-3 returns returns-2 returns-3)

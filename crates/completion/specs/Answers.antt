@@ -1,0 +1,94 @@
+-- The answer to a request, stage by stage and whole: the completed figures where no row of `Refusals` holds, else the number of the
+-- first that does. Definitions only.
+use Prim.Native.Nat.{ℕ, zero, suc}
+use mathlib.Core.Bool.{false}
+use lib.IntN.{pos}
+use Rattle.request.specs.declared.Request.{Request}
+use Rattle.request.specs.Fields.{sizeOf, valueOf}
+use Rattle.completion.specs.declared.figure.Figure.{Figure}
+use Rattle.completion.specs.declared.figure.FigureAnswer.{FigureAnswer}
+use Rattle.completion.specs.declared.figure.FigureAnswer.the-variants as F
+use Rattle.completion.specs.declared.source.Source.{Source}
+use Rattle.completion.specs.declared.source.SourceAnswer.{SourceAnswer}
+use Rattle.completion.specs.declared.source.SourceAnswer.the-variants as S
+use Rattle.completion.specs.declared.Completed.{Completed}
+use Rattle.completion.specs.declared.Completion.{Completion}
+use Rattle.completion.specs.declared.Completion.the-variants as C
+use Rattle.completion.specs.Figures.{dip, width, ztor, rrup, z25}
+use Rattle.completion.specs.Refusals.{first, sourceRows, pathRows, siteRows, refusal}
+
+-- ---- the stages
+unfoldable pub sourceFigures : Request → Source
+unfolding dip width ztor
+sourceFigures r = record { dip = dip r; w = width r; ztor = ztor r }
+
+unfoldable pub sourceAnswer : ℕ → Request → SourceAnswer
+unfolding sourceFigures
+sourceAnswer zero r = S.Known (sourceFigures r)
+sourceAnswer (suc n) r = S.Refused (suc n)
+
+unfoldable pub sourceOf : Request → SourceAnswer
+unfolding sourceAnswer first sourceRows
+sourceOf r = sourceAnswer (first (sourceRows r)) r
+
+unfoldable pub figureAnswer : ℕ → Figure → FigureAnswer
+figureAnswer zero f = F.Known f
+figureAnswer (suc n) f = F.Refused (suc n)
+
+unfoldable pub pathOf : Request → FigureAnswer
+unfolding figureAnswer first pathRows rrup
+pathOf r = figureAnswer (first (pathRows r)) (rrup r)
+
+unfoldable pub siteOf : Request → FigureAnswer
+unfolding figureAnswer first siteRows z25
+siteOf r = figureAnswer (first (siteRows r)) (z25 r)
+
+-- ---- the whole
+unfoldable pub completed : Request → Completed
+unfolding dip width ztor rrup z25 sizeOf valueOf
+completed r =
+    record {
+      m = sizeOf (r .m);
+      rake = valueOf (r .rake);
+      vs30 = sizeOf (r .vs30);
+      dip = dip r;
+      w = width r;
+      ztor = ztor r;
+      rjb = sizeOf (r .rjb);
+      azimuth = valueOf (r .azimuth);
+      rrup = rrup r;
+      z25 = z25 r;
+    }
+
+unfoldable pub answer : ℕ → Request → Completion
+unfolding completed
+answer zero r = C.Done (completed r)
+answer (suc n) r = C.Refused (suc n)
+
+unfoldable pub completionOf : Request → Completion
+unfolding answer refusal
+completionOf r = answer (refusal r) r
+
+-- ---- what an answer says in document 01's terms: its number, 0 for none, and its figures, zeros beside a refusal
+unfoldable pub numberOf : Completion → ℕ
+numberOf (C.Done c) = 0
+numberOf (C.Refused n) = n
+
+abbrev noFigure : Figure
+noFigure = record { value = 0; estimated = false }
+
+unfoldable pub figuresOf : Completion → Completed
+figuresOf (C.Done c) = c
+figuresOf (C.Refused n) =
+    record {
+      m = 0;
+      rake = pos 0;
+      vs30 = 0;
+      dip = noFigure;
+      w = noFigure;
+      ztor = noFigure;
+      rjb = 0;
+      azimuth = pos 0;
+      rrup = noFigure;
+      z25 = noFigure;
+    }

@@ -1,0 +1,9 @@
+pub mod Lengths
+pub mod Scales
+pub mod Angles
+pub mod Corner
+pub mod PlanNear
+pub mod Zones
+pub mod SectionNear
+pub mod Reported
+pub mod TopEdge
