@@ -1,0 +1,135 @@
+-- The text form of a request, as document 01 gives it under "The request": the bytes of a line, its LF not among them, to the
+-- request that they stand for. Definitions only.
+use Prim.Native.Nat.{ℕ, zero, suc, _+_, _-_, _*_}
+use mathlib.Core.Bool.{Bool, cond, _&&_, _||_}
+use mathlib.Core.List.{List, [], _∷_}
+use mathlib.Core.Option.{Option, none, some}
+use lib.Dec.{ltb, leb, eqb}
+use lib.IntN.{pos, negsuc}
+use lib.ListN.{length, getD, take, drop}
+use Rattle.request.specs.declared.Field.{Field}
+use Rattle.request.specs.declared.Field.the-variants.{Given, Blank}
+use Rattle.request.specs.declared.Request.{Request}
+use Rattle.text.specs.declared.figures.Number.{Number}
+use Rattle.text.specs.declared.figures.Number.the-variants as N
+use Rattle.text.specs.declared.figures.Figure.{Figure}
+use Rattle.text.specs.declared.figures.Figure.the-variants as F
+use Rattle.text.specs.declared.figures.Word.{Word}
+use Rattle.text.specs.declared.figures.Word.the-variants as W
+use Rattle.text.specs.declared.read.Line.{Line}
+use Rattle.text.specs.declared.read.Line.the-variants as L
+
+-- the byte " "
+abbrev pub space : ℕ
+space = 32
+
+-- the byte "-"
+abbrev pub minus : ℕ
+minus = 45
+
+-- the byte "0"
+abbrev pub digit0 : ℕ
+digit0 = 48
+
+-- the byte "9"
+abbrev pub digit9 : ℕ
+digit9 = 57
+
+-- ---- one field
+-- "0" to "9"
+unfoldable pub isDigit : ℕ → Bool
+isDigit c = leb digit0 c && leb c digit9
+
+-- the number that digits stand for, after those that make n
+unfoldable pub digitsOf : ℕ → List ℕ → Number
+digitsOf n [] = N.Is n
+digitsOf n (c ∷ cs) = cond (isDigit c) (digitsOf (n * 10 + (c - digit0)) cs) N.Malformed
+
+-- a number has 1 to 6 digits, no leading zero (0 itself allowed)
+unfoldable pub numberOf : List ℕ → Number
+numberOf s =
+    cond (eqb (length s) 0 || ltb 6 (length s) || ltb 1 (length s) && eqb (getD s 0 0) digit0) N.Malformed (digitsOf 0 s)
+
+-- the number as it stands
+unfoldable pub plain : Number → Figure
+plain (N.Is n) = F.Is (pos n)
+plain N.Malformed = F.Malformed
+
+-- the number after a minus sign: never "-0"
+unfoldable pub negative : Number → Figure
+negative (N.Is zero) = F.Malformed
+negative (N.Is (suc n)) = F.Is (negsuc n)
+negative N.Malformed = F.Malformed
+
+-- a number, after a minus sign where the field may have one
+unfoldable pub figureOf : Bool → List ℕ → Figure
+figureOf signed s = cond (eqb (getD s 0 0) minus) (cond signed (negative (numberOf (drop 1 s))) F.Malformed) (plain (numberOf s))
+
+-- a figure is given
+unfoldable pub given : Figure → Word
+given (F.Is v) = W.Is (Given v)
+given F.Malformed = W.Malformed
+
+-- blank is one "-"
+unfoldable pub fieldOf : Bool → List ℕ → Word
+fieldOf signed s = cond (eqb (length s) 1 && eqb (getD s 0 0) minus) (W.Is Blank) (given (figureOf signed s))
+
+-- ---- the line
+-- a line is at most 100 bytes before its LF
+abbrev pub longest : ℕ
+longest = 100
+
+-- the place of the first space, or the length where there is none
+unfoldable pub spaceAt : List ℕ → ℕ
+spaceAt [] = 0
+spaceAt (c ∷ cs) = cond (eqb c space) 0 (suc (spaceAt cs))
+
+-- fields are numbered from 0: only rake and azimuth may have a minus sign
+unfoldable pub signedAt : ℕ → Bool
+signedAt k = eqb k 1 || eqb k 8
+
+-- one field more in front, if it and all behind it are well-formed
+unfoldable pub inFront : Word → Option (List Field) → Option (List Field)
+inFront (W.Is f) (some fs) = some (f ∷ fs)
+inFront (W.Is f) none = none
+inFront W.Malformed fs = none
+
+-- from field k on: n fields with one space after each, and one more that takes all the rest
+unfoldable pub fieldsOf : ℕ → ℕ → List ℕ → Option (List Field)
+fieldsOf zero k s = inFront (fieldOf (signedAt k) s) (some [])
+fieldsOf (suc n) k s =
+    cond (ltb (spaceAt s) (length s))
+    (inFront (fieldOf (signedAt k) (take (spaceAt s) s)) (fieldsOf n (k + 1) (drop (spaceAt s + 1) s)))
+    none
+
+-- field k of thirteen; past the last stands a default that is never read
+abbrev pub fieldAt : List Field → ℕ → Field
+fieldAt f k = getD f k (Given (pos 0))
+
+-- thirteen fields in document 01's order
+unfoldable pub requestOf : List Field → Request
+requestOf f =
+    record {
+      m = fieldAt f 0;
+      rake = fieldAt f 1;
+      vs30 = fieldAt f 2;
+      dip = fieldAt f 3;
+      w = fieldAt f 4;
+      zhyp = fieldAt f 5;
+      ztor = fieldAt f 6;
+      rjb = fieldAt f 7;
+      azimuth = fieldAt f 8;
+      rrup = fieldAt f 9;
+      z10 = fieldAt f 10;
+      z15 = fieldAt f 11;
+      z25 = fieldAt f 12;
+    }
+
+-- all thirteen, or no line
+unfoldable pub toLine : Option (List Field) → Line
+toLine (some f) = L.Is (requestOf f)
+toLine none = L.Malformed
+
+-- the line: twelve fields with a space after each, and a thirteenth
+unfoldable pub lineOf : List ℕ → Line
+lineOf s = cond (ltb longest (length s)) L.Malformed (toLine (fieldsOf 12 0 s))

@@ -1,0 +1,104 @@
+// One field of a line, read from its own bytes.
+use request::Field;
+ghost use mathlib.Core.Path.{_≡_};
+ghost use Prim.Native.Nat.{_≤_};
+ghost use lib.ListN.{length};
+ghost use Rattle.text.specs.Grammar.{digitsOf, numberOf, figureOf, fieldOf};
+
+// What digits stand for.
+pub enum Number {
+    Is(u64),
+    Malformed,
+}
+
+// What a number with or without a minus sign stands for.
+pub enum Figure {
+    Is(i64),
+    Malformed,
+}
+
+// What stands between two spaces.
+pub enum Word {
+    Is(Field),
+    Malformed,
+}
+
+// The number that at most six digits stand for.
+fn read_digits(s: &[u8]) -> Number
+    requires { ⌜ length (now s) ≤ 6 ⌝ }
+    ensures { λ r. ⌜ r ≡ digitsOf 0 (now (s .entry)) ⌝ }
+{
+    let mut n = 0u64;
+    let mut i = 0usize;
+    while i < s.len() {
+        let c = s[i];
+        if c < b'0' {
+            return Number::Malformed;
+        }
+        if b'9' < c {
+            return Number::Malformed;
+        }
+        n = n * 10 + (c - b'0') as u64;
+        i += 1;
+    }
+    Number::Is(n)
+}
+
+// A number: one to six digits with no leading zero.
+fn read_number(s: &[u8]) -> Number
+    ensures { λ r. ⌜ r ≡ numberOf (now (s .entry)) ⌝ }
+{
+    let n = s.len();
+    if n == 0 {
+        return Number::Malformed;
+    }
+    if 6 < n {
+        return Number::Malformed;
+    }
+    if 1 < n {
+        if s[0] == b'0' {
+            return Number::Malformed;
+        }
+    }
+    read_digits(s)
+}
+
+// A number, after a minus sign where the field may have one. There is no "-0".
+fn read_figure(s: &[u8], signed: bool) -> Figure
+    ensures { λ r. ⌜ r ≡ figureOf signed (now (s .entry)) ⌝ }
+{
+    if s.len() == 0 {
+        return Figure::Malformed;
+    }
+    if s[0] == b'-' {
+        if !signed {
+            return Figure::Malformed;
+        }
+        let Number::Is(n) = read_number(&s[1..]) else {
+            return Figure::Malformed;
+        };
+        if n == 0 {
+            return Figure::Malformed;
+        }
+        return Figure::Is(0 - (n as i64));
+    }
+    match read_number(s) {
+        Number::Is(n) => Figure::Is(n as i64),
+        Number::Malformed => Figure::Malformed,
+    }
+}
+
+// One field: a figure, or one "-" for blank.
+pub fn read_field(s: &[u8], signed: bool) -> Word
+    ensures { λ r. ⌜ r ≡ fieldOf signed (now (s .entry)) ⌝ }
+{
+    if s.len() == 1 {
+        if s[0] == b'-' {
+            return Word::Is(Field::Blank);
+        }
+    }
+    match read_figure(s, signed) {
+        Figure::Is(v) => Word::Is(Field::Given(v)),
+        Figure::Malformed => Word::Malformed,
+    }
+}

@@ -1,0 +1,63 @@
+// Text into lent bytes, from a place on. Each function returns the place after what it wrote, and
+// leaves every other byte as it was.
+use request::Field;
+ghost use mathlib.Core.Path.{_≡_};
+ghost use mathlib.Core.List.{[], _∷_};
+ghost use Prim.Native.Nat.{_+_, _≤_};
+ghost use lib.ListN.{length};
+ghost use Rattle.text.specs.Render.{render, renderSigned, Written};
+
+// One byte.
+pub fn put_byte(b: &mut [u8], at: usize, v: u8) -> usize
+    requires { ⌜ at + 1 ≤ length (now b) ⌝ }
+    ensures { λ r. ⌜ Written (now (b .entry)) at (v ∷ []) r (now (b .exit)) ⌝ }
+{
+    b[at] = v;
+    at + 1
+}
+
+// A number in decimal digits.
+pub fn put_number(b: &mut [u8], at: usize, n: u64) -> usize
+    requires { ⌜ at + length (render n) ≤ length (now b) ⌝ }
+    ensures { λ r. ⌜ Written (now (b .entry)) at (render n) r (now (b .exit)) ⌝ }
+{
+    if n < 10 {
+        return put_byte(b, at, b'0' + n as u8);
+    }
+    let p = put_number(b, at, n / 10);
+    put_byte(b, p, b'0' + (n % 10) as u8)
+}
+
+// The same of either sign, a minus sign before it if it is below 0.
+pub fn put_signed(b: &mut [u8], at: usize, z: i64) -> usize
+    requires { ⌜ at + length (renderSigned z) ≤ length (now b) ⌝ }
+    ensures { λ r. ⌜ Written (now (b .entry)) at (renderSigned z) r (now (b .exit)) ⌝ }
+{
+    let n = request::size_of(Field::Given(z));
+    if z < 0 {
+        let p = put_byte(b, at, b'-');
+        return put_number(b, p, n);
+    }
+    put_number(b, at, n)
+}
+
+// How many bytes put_number writes.
+pub fn digits(n: u64) -> usize
+    ensures { λ r. ⌜ (r ≡ length (render n)) × (r ≤ 20) ⌝ }
+{
+    if n < 10 {
+        return 1;
+    }
+    digits(n / 10) + 1
+}
+
+// How many bytes put_signed writes.
+pub fn width(z: i64) -> usize
+    ensures { λ r. ⌜ (r ≡ length (renderSigned z)) × (r ≤ 21) ⌝ }
+{
+    let n = digits(request::size_of(Field::Given(z)));
+    if z < 0 {
+        return n + 1;
+    }
+    n
+}
