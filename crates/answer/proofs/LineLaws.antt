@@ -1,0 +1,73 @@
+-- A text put byte by byte; how long the lines are; and from a text that was put, or did not fit, to what a line writer promises.
+-- Assumes nothing.
+use Prim.Native.Nat.{ℕ, _+_, _≤_, _<_}
+use mathlib.Core.Path.{_≡_, refl, sym, ap, _∙_}
+use mathlib.Core.List.{List, [], _∷_, _++_}
+use native.Mathlib.Omega.{arith}
+use native.Mathlib.Numerals.{add-one}
+use borrow.Author.Tests.{lt-ltb, le-ltb}
+use lib.ListN.{length, getD, take, drop, set, length-append, take-append-drop}
+use lib.Seq.{length-take-le, take-suc}
+use Rattle.completion.specs.declared.figure.Figure.{Figure}
+use Rattle.completion.specs.declared.Completed.{Completed}
+use Rattle.text.specs.Grammar.{space}
+use Rattle.text.specs.Render.{ascii, render, put, Written}
+use Rattle.text.proofs.PutLaws.{put-one, put-put, length-put}
+use Rattle.answer.specs.declared.Wrote.{Wrote}
+use Rattle.answer.specs.declared.Wrote.the-variants as W
+use Rattle.answer.specs.Lines.{spaced, letters, okLine, noLine, wrote, after, LineWritten}
+
+-- ---- a text, byte by byte
+pub put-nothing : (b : List ℕ) (p : ℕ) → b ≡ put b p []
+unfolding put
+put-nothing b p =
+    let e : p + 0 ≡ p = omega arith in
+    sym (ap (λ (n : ℕ). take p b ++ drop n b) e ∙ take-append-drop p b)
+
+module _ (b : List ℕ) (p : ℕ) (s : List ℕ) (i : ℕ) (room : p + length s ≤ length b) (inside : i < length s) where
+  before : length (take i s) ≡ i
+  before = length-take-le i s (omega arith)
+
+  pub put-next : set (put b p (take i s)) (p + i) (getD s i 0) ≡ put b p (take (i + 1) s)
+  put-next =
+      put-one (put b p (take i s)) (p + i) (getD s i 0) (omega (arith, length-put b p (take i s) (omega (arith, before)), before))
+      ∙ ap (λ (n : ℕ). put (put b p (take i s)) (p + n) (getD s i 0 ∷ [])) (sym before)
+      ∙ put-put b p (take i s) (omega (arith, before)) (getD s i 0 ∷ [])
+      ∙ ap (put b p) (rw (add-one i) (sym (take-suc s i 0 inside)))
+
+-- ---- the lengths
+length-spaced : (f : Figure) → length (spaced f) ≡ length (render (f .value)) + 1
+unfolding spaced
+length-spaced f = length-append (render (f .value)) (space ∷ [])
+
+pub length-ok :
+    (c : Completed)
+    → length (okLine c)
+    ≡ length (render (c .dip .value)) + length (render (c .w .value)) + length (render (c .ztor .value)) + length (render (c .rrup .value))
+    + length (render (c .z25 .value))
+    + 14
+unfolding okLine ascii letters
+length-ok c =
+    simp length-append
+    (omega (arith, length-spaced (c .dip), length-spaced (c .w), length-spaced (c .ztor), length-spaced (c .rrup), length-spaced (c .z25)))
+
+pub length-no : (n : ℕ) → length (noLine n) ≡ length (render n) + 4
+unfolding noLine ascii
+length-no n = simp length-append (omega arith)
+
+-- ---- what a line writer promises
+pub refuses : (b s : List ℕ) → length b < length s → LineWritten b s (W.Refused 16) b
+unfolding wrote after
+refuses b s h = record { answer = rw (lt-ltb (length b) (length s) h); bytes = rw (lt-ltb (length b) (length s) h) }
+
+pub writes : {b s : List ℕ} {r : ℕ} {b₁ : List ℕ} → length s ≤ length b → Written b 0 s r b₁ → LineWritten b s (W.To r) b₁
+unfolding wrote after
+writes {b} {s} {r} h w =
+    record {
+      answer = rw (le-ltb (length b) (length s) h) (ap W.To (omega (arith, w .place)));
+      bytes = rw (le-ltb (length b) (length s) h) (w .bytes);
+    }
+
+-- one answer and one state of the bytes
+pub line-written-one : {b s : List ℕ} {q r : Wrote} {b₁ b₂ : List ℕ} → LineWritten b s q b₁ → LineWritten b s r b₂ → (q ≡ r) × (b₁ ≡ b₂)
+line-written-one v w = (v .answer ∙ sym (w .answer), v .bytes ∙ sym (w .bytes))

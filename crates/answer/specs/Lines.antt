@@ -1,0 +1,87 @@
+-- The answer lines of the completing program, as document 01 prints them under "Examples": the bytes of a line, its LF among them, and
+-- what a writer of a line leaves in lent bytes. Definitions only.
+use Prim.Native.Nat.{ℕ}
+use mathlib.Core.Path.{_≡_}
+use mathlib.Core.Bool.{cond}
+use mathlib.Core.List.{List, [], _∷_, _++_}
+use lib.Dec.{ltb}
+use lib.ListN.{length}
+use Rattle.completion.specs.declared.figure.Figure.{Figure}
+use Rattle.completion.specs.declared.Completed.{Completed}
+use Rattle.completion.specs.declared.Completion.{Completion}
+use Rattle.completion.specs.declared.Completion.the-variants as C
+use Rattle.completion.specs.Answers.{completionOf}
+use Rattle.text.specs.declared.read.Line.{Line}
+use Rattle.text.specs.declared.read.Line.the-variants as L
+use Rattle.text.specs.Grammar.{space, lineOf}
+use Rattle.text.specs.Render.{ascii, render, put}
+use Rattle.answer.specs.declared.Wrote.{Wrote}
+use Rattle.answer.specs.declared.Wrote.the-variants as W
+
+-- the byte LF
+abbrev pub lf : ℕ
+lf = 10
+
+-- the byte "e", for an estimate
+abbrev pub estimate : ℕ
+estimate = 101
+
+-- the byte "g", for what was given
+abbrev pub given : ℕ
+given = 103
+
+-- ---- the line
+-- the letter of a figure
+unfoldable pub letterOf : Figure → ℕ
+letterOf f = cond (f .estimated) estimate given
+
+-- a figure, and the space after it
+unfoldable pub spaced : Figure → List ℕ
+spaced f = render (f .value) ++ (space ∷ [])
+
+-- the letters of the five columns, and the LF
+unfoldable pub letters : Completed → List ℕ
+unfolding letterOf
+letters c = letterOf (c .dip) ∷ letterOf (c .w) ∷ letterOf (c .ztor) ∷ letterOf (c .rrup) ∷ letterOf (c .z25) ∷ lf ∷ []
+
+-- "ok", the figures dip, W, ZTOR, RRUP and Z2.5, and their letters
+unfoldable pub okLine : Completed → List ℕ
+unfolding ascii spaced letters
+okLine c = ascii "ok " ++ spaced (c .dip) ++ spaced (c .w) ++ spaced (c .ztor) ++ spaced (c .rrup) ++ spaced (c .z25) ++ letters c
+
+-- "no" and the refusal's number
+unfoldable pub noLine : ℕ → List ℕ
+unfolding ascii
+noLine n = ascii "no " ++ render n ++ (lf ∷ [])
+
+unfoldable pub completionLine : Completion → List ℕ
+unfolding okLine noLine
+completionLine (C.Done c) = okLine c
+completionLine (C.Refused n) = noLine n
+
+-- ---- from a line to its answer
+-- refusal 14 for a malformed line
+unfoldable pub replyOf : Line → Completion
+unfolding completionOf
+replyOf (L.Is r) = completionOf r
+replyOf L.Malformed = C.Refused 14
+
+-- from the bytes of a line, its LF not among them, to the bytes of its answer line
+unfoldable pub answerTo : List ℕ → List ℕ
+unfolding completionLine replyOf lineOf
+answerTo s = completionLine (replyOf (lineOf s))
+
+-- ---- lent bytes
+-- the answer of a writer that is lent n bytes for the line s: refusal 16 if s is longer
+unfoldable pub wrote : ℕ → List ℕ → Wrote
+wrote n s = cond (ltb n (length s)) (W.Refused 16) (W.To (length s))
+
+-- the lent bytes b afterwards: as they were if s is longer, else s and behind it what was there
+unfoldable pub after : List ℕ → List ℕ → List ℕ
+unfolding put
+after b s = cond (ltb (length b) (length s)) b (put b 0 s)
+
+-- what a writer of the line s into b promises: the answer r, and the bytes b₁ that b became
+pub record LineWritten (b s : List ℕ) (r : Wrote) (b₁ : List ℕ) : Type 0 where
+  pub answer : r ≡ wrote (length b) s
+  pub bytes : b₁ ≡ after b s

@@ -1,0 +1,68 @@
+-- The loop's invariant: both blocks are as long as they were. The measure is how many turns are left. Of the reading and the writing it is
+-- assumed that each call returns.
+use mathlib.Core.Path.{_≡_}
+use borrow.Author.Needs.{needs}
+use lib.ListN.{length}
+use Rattle.complete.proofs.read_list.Statement.{statement}
+use Rattle.complete.proofs.read_list.Tie as tie
+
+abbrev Inv-loop : tie.InvT-loop
+Inv-loop input₀ out₀ reader₀ turns₀ input out reader turns = (length input ≡ length input₀) × (length out ≡ length out₀)
+
+abbrev μ-loop : tie.MeasureT-loop
+μ-loop input₀ out₀ reader₀ turns₀ input out reader turns = turns
+
+new-reader-requires : tie.Need-new-reader-requires Inv-loop μ-loop
+new-reader-requires c κs = search needs
+
+loop-holds : tie.Need-loop-holds Inv-loop μ-loop
+loop-holds c = search needs
+
+read-block-requires : tie.Need-read-block-requires Inv-loop μ-loop
+read-block-requires c κs = search needs
+
+same-length : tie.Need-same-length Inv-loop μ-loop
+same-length c = search needs
+
+same-length-2 : tie.Need-same-length-2 Inv-loop μ-loop
+same-length-2 c = search needs
+
+returns : tie.Need-returns Inv-loop μ-loop
+returns c = search needs
+
+sub-turns : tie.Need-sub-turns Inv-loop μ-loop
+sub-turns c = search needs
+
+loop-less : tie.Need-loop-less Inv-loop μ-loop
+loop-less c = search needs
+
+loop-again : tie.Need-loop-again Inv-loop μ-loop
+loop-again c = search needs
+
+same-length-3 : tie.Need-same-length-3 Inv-loop μ-loop
+same-length-3 c = search needs
+
+same-length-4 : tie.Need-same-length-4 Inv-loop μ-loop
+same-length-4 c = search needs
+
+returns-2 : tie.Need-returns-2 Inv-loop μ-loop
+returns-2 c = search needs
+
+pub read-list-spec : {M : Type 1} → statement M
+read-list-spec =
+    tie.close
+    (tie.spec
+    Inv-loop
+    μ-loop
+    new-reader-requires
+    loop-holds
+    read-block-requires
+    same-length
+    same-length-2
+    returns
+    sub-turns
+    loop-less
+    loop-again
+    same-length-3
+    same-length-4
+    returns-2)

@@ -1,0 +1,95 @@
+// The completing program: a list of requests on standard input, a header and one answer line a
+// request on standard output. It holds two blocks and a reader, however long the list is.
+use answer::Wrote;
+use libc::STDIN_FILENO;
+use libc::STDOUT_FILENO;
+use lists::Reader;
+use lists::close_list;
+use lists::new_reader;
+use lists::take_part;
+ghost use Prim.Native.Nat.{_≤_};
+ghost use lib.ListN.{length};
+
+// The reader after a block, and whether to go on.
+struct Turn {
+    reader: Reader,
+    go_on: bool,
+}
+
+// Answers a block of the list. The room lent is enough for the longest answer, so that each call of
+// the reader takes a byte at least.
+fn answer_block(first: Reader, block: &[u8], out: &mut [u8]) -> Turn
+    requires { ⌜ 38 ≤ length (now out) ⌝ }
+{
+    let mut reader = first;
+    let mut at = 0usize;
+    while at < block.len() {
+        let taken = take_part(reader, &block[at..], out);
+        let wrote = taken.wrote;
+        let took = taken.took;
+        let next = taken.reader;
+        reader = next;
+        at += took;
+        if !io::write_all(STDOUT_FILENO, &out[..wrote]) {
+            return Turn {
+                reader: reader,
+                go_on: false,
+            };
+        }
+    }
+    Turn {
+        reader: reader,
+        go_on: true,
+    }
+}
+
+// Reads a block and answers it. There is nothing to go on with once the input has ended, cannot be
+// read, or no answer can be written.
+fn read_block(reader: Reader, input: &mut [u8], out: &mut [u8]) -> Turn
+    requires { ⌜ 38 ≤ length (now out) ⌝ }
+{
+    let got = libc::read(STDIN_FILENO, input);
+    let n = io::count(got, input);
+    if n == 0 {
+        return Turn {
+            reader: reader,
+            go_on: false,
+        };
+    }
+    answer_block(reader, &input[..n], out)
+}
+
+// Reads the list to its end. A proved loop has to end, and nothing says that the input does: the
+// turns are counted down from a number that no run uses up.
+fn read_list(input: &mut [u8], out: &mut [u8]) -> Reader
+    requires { ⌜ 38 ≤ length (now out) ⌝ }
+{
+    let mut reader = new_reader();
+    let mut turns = u64::MAX;
+    while turns > 0 {
+        let turn = read_block(reader, input, out);
+        let next = turn.reader;
+        reader = next;
+        if !turn.go_on {
+            return reader;
+        }
+        turns -= 1;
+    }
+    reader
+}
+
+// Writes what a last line without an LF gets.
+fn end_list(reader: Reader, out: &mut [u8]) {
+    let Wrote::To(n) = close_list(reader, out) else {
+        return;
+    };
+    io::write_all(STDOUT_FILENO, &out[..n]);
+}
+
+fn main() {
+    io::write_all(STDOUT_FILENO, b"dip W ZTOR RRUP Z25 from\n");
+    let mut input = io::large_buffer();
+    let mut out = io::large_buffer();
+    let reader = read_list(&mut input, &mut out);
+    end_list(reader, &mut out);
+}

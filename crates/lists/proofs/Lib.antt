@@ -1,0 +1,5 @@
+pub mod HeldLaws
+pub mod LentLaws
+pub mod PartLaws
+pub mod WholeList
+pub mod Progress

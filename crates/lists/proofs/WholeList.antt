@@ -1,0 +1,155 @@
+-- A list read in parts, cut anywhere, gets the answer lines of the whole: what is owed for a part and whatever follows it is what was
+-- written, and what is owed for the bytes left and what follows.
+-- Assumes nothing.
+use Prim.Native.Nat.{ℕ, suc, _+_, _≤_, _<_}
+use mathlib.Core.Path.{_≡_, refl, sym, ap, _∙_}
+use mathlib.Core.Bool.{Bool, true, false, cond}
+use mathlib.Core.List.{List, [], _∷_, _++_, append-assoc}
+use native.Mathlib.Omega.{arith}
+use native.Mathlib.Numerals.{add-one}
+use borrow.Author.Tests.{lt-ltb, le-ltb, ltb-true, ltb-false, ne-eqb}
+use lib.Dec.{ltb, eqb}
+use lib.ListN.{length, take, set, replicate, length-replicate, length-append, length-set}
+use lib.Seq.{take-suc-set, length-take-le}
+use Rattle.text.specs.Grammar.{longest}
+use Rattle.answer.specs.Lines.{lf, noLine, answerTo}
+use Rattle.answer.proofs.LongestAnswer.{answer-short}
+use Rattle.lists.specs.declared.Reader.{Reader}
+use Rattle.lists.specs.Whole.{answersFrom, answersTo}
+use Rattle.lists.specs.Parts.{heldLine, lineIn, newReader, fresh, grown, closing, Stand, readFrom}
+use Rattle.lists.proofs.HeldLaws.{held-over, held-whole, over-answer}
+use Rattle.lists.proofs.PartLaws.{grown-held, grown-over}
+
+-- ---- lines too long are all alike
+pub over-alike : (a b s : List ℕ) → longest < length a → longest < length b → answersFrom a s ≡ answersFrom b s
+unfolding answersFrom
+over-alike a b [] h k = rw (ne-eqb (length a) 0 (λ e. omega arith), ne-eqb (length b) 0 (λ e. omega arith))
+over-alike a b (c ∷ cs) h k =
+    rw (
+      over-answer a h,
+      over-answer b k,
+      over-alike (a ++ (c ∷ [])) (b ++ (c ∷ [])) cs (omega (arith, length-append a (c ∷ []))) (omega (arith, length-append b (c ∷ []))),
+    )
+
+-- ---- one byte more
+module _ (r : Reader) (full : length (r .held) ≡ 100) (c : ℕ) where
+  pub grown-full : length (grown r c .held) ≡ 100
+  grown-full = go (ltb (r .count) longest) refl
+    where
+      go : (t : Bool) → ltb (r .count) longest ≡ t → length (grown r c .held) ≡ 100
+      go true e =
+          ap (λ (q : Reader). length (q .held)) (grown-held r c (ltb-true (r .count) longest e)) ∙ length-set (r .held) (r .count) c ∙ full
+      go false e = ap (λ (q : Reader). length (q .held)) (grown-over r c (ltb-false (r .count) longest e)) ∙ full
+
+  -- held with the others
+  one-more : r .count < longest → lineIn (grown r c) ≡ lineIn r ++ (c ∷ [])
+  one-more h =
+      ap lineIn (grown-held r c h)
+      ∙ held-whole (set (r .held) (r .count) c) (r .count + 1) (omega arith)
+      ∙ rw (add-one (r .count)) (take-suc-set (r .held) (r .count) c (omega arith))
+      ∙ ap (λ (l : List ℕ). l ++ (c ∷ [])) (sym (held-whole (r .held) (r .count) (omega arith)))
+
+  -- one too many, then and already before
+  over-length : longest ≤ r .count → longest ≤ length (lineIn r)
+  over-length h = go (ltb longest (r .count)) refl
+    where
+      go : (t : Bool) → ltb longest (r .count) ≡ t → longest ≤ length (lineIn r)
+      go true e =
+          omega (arith, ap length (held-over (r .held) (r .count) (ltb-true longest (r .count) e)), length-replicate {A = ℕ} (longest + 1) 0)
+      go false e =
+          let k = ltb-false longest (r .count) e in
+          omega (arith, ap length (held-whole (r .held) (r .count) k), length-take-le (r .count) (r .held) (omega arith))
+
+  -- what the reader with the byte is owed is what its line with the byte is
+  grown-alike : (s : List ℕ) → answersFrom (lineIn (grown r c)) s ≡ answersFrom (lineIn r ++ (c ∷ [])) s
+  grown-alike s = go (ltb (r .count) longest) refl
+    where
+      go : (t : Bool) → ltb (r .count) longest ≡ t → answersFrom (lineIn (grown r c)) s ≡ answersFrom (lineIn r ++ (c ∷ [])) s
+      go true e = ap (λ (l : List ℕ). answersFrom l s) (one-more (ltb-true (r .count) longest e))
+      go false e =
+          let h = ltb-false (r .count) longest e in
+          let q = ap lineIn (grown-over r c h) ∙ held-over (r .held) (longest + 1) (omega arith) in
+          over-alike (lineIn (grown r c)) (lineIn r ++ (c ∷ [])) s
+          (omega (arith, ap length q, length-replicate {A = ℕ} (longest + 1) 0))
+          (omega (arith, over-length h, length-append (lineIn r) (c ∷ [])))
+
+-- ---- a part
+-- what a reader is owed that stands in a part, the bytes s after it: the text that it has written, and the answer lines to come
+abbrev pub owed : Stand → List ℕ → List ℕ
+owed p s = p .text ++ answersFrom (lineIn (p .reader)) (p .left ++ s)
+
+no-line : (r : Reader) → lineIn (fresh r) ≡ []
+no-line r = held-whole (r .held) 0 (omega arith)
+
+module _ (room : ℕ) (s : List ℕ) where
+  -- by its first byte
+  module _ (r : Reader) (full : length (r .held) ≡ 100) (text : List ℕ) (c : ℕ) (cs : List ℕ) where
+    abbrev line : List ℕ
+    line = answerTo (lineIn r)
+
+    step :
+        (a b : Bool) → eqb c lf ≡ a
+        → owed (record { reader = fresh r; text = text ++ line; left = cs }) s ≡ owed (readFrom room (fresh r) (text ++ line) cs) s
+        → owed (record { reader = grown r c; text = text; left = cs }) s ≡ owed (readFrom room (grown r c) text cs) s
+        → text ++ cond a (line ++ answersFrom [] (cs ++ s)) (answersFrom (lineIn r ++ (c ∷ [])) (cs ++ s))
+        ≡ owed
+        (cond a (cond b (record { reader = r; text = text; left = c ∷ cs }) (readFrom room (fresh r) (text ++ line) cs)) (readFrom room (grown r c) text cs))
+        s
+    unfolding answersFrom
+    step true true e f g = rw e
+    step true false e f g = sym (append-assoc text line (answersFrom [] (cs ++ s))) ∙ rw (← no-line r) f
+    step false b e f g = ap (λ (l : List ℕ). text ++ l) (sym (grown-alike r full c (cs ++ s))) ∙ g
+
+  -- the same once the part is read
+  pub part-is :
+      (r : Reader) (text part : List ℕ) → length (r .held) ≡ 100
+      → owed (record { reader = r; text = text; left = part }) s ≡ owed (readFrom room r text part) s
+  unfolding readFrom answersFrom
+  part-is r text [] h = refl
+  part-is r text (c ∷ cs) h =
+      step r h text c cs (eqb c lf) (ltb room (length (text ++ answerTo (lineIn r)))) refl
+      (part-is (fresh r) (text ++ answerTo (lineIn r)) cs h)
+      (part-is (grown r c) text cs (grown-full r h c))
+
+  -- and the array keeps its length
+  pub part-full : (r : Reader) (text part : List ℕ) → length (r .held) ≡ 100 → length (readFrom room r text part .reader .held) ≡ 100
+  unfolding readFrom
+  part-full r text [] h = h
+  part-full r text (c ∷ cs) h =
+      go (eqb c lf) (ltb room (length (text ++ answerTo (lineIn r))))
+      (part-full (fresh r) (text ++ answerTo (lineIn r)) cs h) (part-full (grown r c) text cs (grown-full r h c))
+    where
+      go :
+          (a b : Bool)
+          → length (readFrom room (fresh r) (text ++ answerTo (lineIn r)) cs .reader .held) ≡ 100
+          → length (readFrom room (grown r c) text cs .reader .held) ≡ 100
+          → length
+          (cond a
+          (cond b (record { reader = r; text = text; left = c ∷ cs }) (readFrom room (fresh r) (text ++ answerTo (lineIn r)) cs))
+          (readFrom room (grown r c) text cs) .reader .held)
+          ≡ 100
+      go true true f g = h
+      go true false f g = f
+      go false b f g = g
+
+-- ---- a whole list
+-- the texts that a reader writes for a list offered in parts, the bytes left of each offered again with what follows, and at the close
+pub data Answered : Reader → List ℕ → List ℕ → Type 0 where
+  closed : (r : Reader) → Answered r [] (closing r)
+  offered :
+      (room : ℕ) (r : Reader) (part s text : List ℕ)
+      → Answered (readFrom room r [] part .reader) (readFrom room r [] part .left ++ s) text
+      → Answered r (part ++ s) (readFrom room r [] part .text ++ text)
+
+answered-from : {r : Reader} {s text : List ℕ} → length (r .held) ≡ 100 → Answered r s text → text ≡ answersFrom (lineIn r) s
+unfolding closing
+answered-from h (closed r) = refl
+answered-from h (offered room r part s text a) =
+    ap (λ (l : List ℕ). readFrom room r [] part .text ++ l) (answered-from (part-full room s r [] part h) a)
+    ∙ sym (part-is room s r [] part h)
+
+-- joined they are the answer lines to the list, however it was cut and whatever room was lent
+pub answered-whole : {s text : List ℕ} → Answered newReader s text → text ≡ answersTo s
+unfolding answersTo
+answered-whole {s} a =
+    answered-from (length-replicate {A = ℕ} longest 0) a ∙ ap (λ (l : List ℕ). answersFrom l s) (no-line newReader)

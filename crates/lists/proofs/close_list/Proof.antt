@@ -1,0 +1,30 @@
+-- A list that ends in LF, or has no byte, is owed nothing more; an unfinished line gets 14. Assumes nothing.
+use borrow.Author.Needs.{needs}
+use mathlib.Core.Path.{_≡_, refl, _∙_}
+use mathlib.Core.List.{[]}
+use native.Mathlib.Omega.{arith}
+use denote.Ref.{now}
+use lib.ListN.{length}
+use Rattle.answer.specs.Lines.{LineWritten}
+use Rattle.lists.proofs.HeldLaws.{closing-none, closing-some}
+use Rattle.lists.proofs.LentLaws.{nothing-written}
+use Rattle.lists.proofs.close_list.Statement.{statement}
+use Rattle.lists.proofs.close_list.Tie as tie
+
+returns : tie.Need-returns
+returns c = rw (closing-none (c .before .before .args .r) (c .if1 .taken)) (nothing-written (now (c .before .before .args .out)))
+
+write-completion-requires : tie.Need-write-completion-requires
+write-completion-requires c κs = search needs
+
+same-length : tie.Need-same-length
+same-length c = search needs
+
+returns-2 : tie.Need-returns-2
+returns-2 c =
+    let w = c .before .before in
+    let s = w .before .before .before .before in
+    rw (closing-some (s .args .r) (search needs) (omega (arith, w .before .before .if1 .left))) (w .write-completion .ensures)
+
+pub close-list-spec : {M : Type 1} → statement M
+close-list-spec = tie.close (tie.spec returns write-completion-requires same-length returns-2)

@@ -1,0 +1,111 @@
+// A list of requests read in parts, cut at any place: the answer line of each whole line, as far as
+// lent bytes reach, and the unfinished line held from part to part.
+use answer::Wrote;
+use answer::answer_line;
+use answer::write_completion;
+use completion::Completion;
+ghost use mathlib.Core.Path.{_≡_};
+ghost use lib.ListN.{length};
+ghost use Rattle.answer.specs.Lines.{answerTo, LineWritten};
+ghost use Rattle.lists.specs.Parts.{heldLine, newReader, closing, PartTaken};
+
+// The most bytes that a line has before its LF.
+const LONGEST: usize = 100;
+
+// The refusal of a line that is too long or has no LF.
+const MALFORMED: u32 = 14;
+
+// An unfinished line: its first bytes, and how many it has. A count above LONGEST says that the line
+// is too long; its bytes are of no use then.
+pub struct Reader {
+    pub held: [u8; 100],
+    pub count: usize,
+}
+
+// What was made of a part: the reader after it, how many of its bytes were taken, and how many bytes
+// of answer lines were written.
+pub struct Taken {
+    pub reader: Reader,
+    pub took: usize,
+    pub wrote: usize,
+}
+
+// A reader before the first byte of a list.
+pub fn new_reader() -> Reader
+    ensures { λ r. ⌜ r ≡ newReader ⌝ }
+{
+    let held = [0u8; 100];
+    Reader {
+        held: held,
+        count: 0,
+    }
+}
+
+// The answer line of the line held, into `out`; or refusal 16.
+fn answer_held(held: &[u8], count: usize, out: &mut [u8]) -> Wrote
+    requires { ⌜ length (now held) ≡ 100 ⌝ }
+    ensures { λ r. ⌜ LineWritten (now (out .entry)) (answerTo (heldLine (now (held .entry)) count)) r (now (out .exit)) ⌝ }
+{
+    if LONGEST < count {
+        return write_completion(out, Completion::Refused(MALFORMED));
+    }
+    answer_line(&held[..count], out)
+}
+
+// Takes a part of a list. It stops before the LF of a line whose answer does not fit behind those
+// written, so that the caller offers the bytes not taken again with more room.
+pub fn take_part(r: Reader, part: &[u8], out: &mut [u8]) -> Taken
+    ensures { λ t. ⌜ PartTaken r (now (part .entry)) (now (out .entry)) t (now (out .exit)) ⌝ }
+{
+    let mut held = r.held;
+    let mut count = r.count;
+    let mut wrote = 0usize;
+    let mut i = 0usize;
+    while i < part.len() {
+        let c = part[i];
+        if c == b'\n' {
+            let Wrote::To(n) = answer_held(&held, count, &mut out[wrote..]) else {
+                let reader = Reader {
+                    held: held,
+                    count: count,
+                };
+                return Taken {
+                    reader: reader,
+                    took: i,
+                    wrote: wrote,
+                };
+            };
+            wrote += n;
+            count = 0;
+            i += 1;
+        } else if count < LONGEST {
+            held[count] = c;
+            count += 1;
+            i += 1;
+        } else {
+            count = LONGEST + 1;
+            i += 1;
+        }
+    }
+    let reader = Reader {
+        held: held,
+        count: count,
+    };
+    Taken {
+        reader: reader,
+        took: i,
+        wrote: wrote,
+    }
+}
+
+// Ends a list: an unfinished line is malformed. Its only refusal is 16, and then no byte of `out` has
+// changed.
+pub fn close_list(r: Reader, out: &mut [u8]) -> Wrote
+    ensures { λ w. ⌜ LineWritten (now (out .entry)) (closing r) w (now (out .exit)) ⌝ }
+{
+    let count = r.count;
+    if count == 0 {
+        return Wrote::To(0);
+    }
+    write_completion(out, Completion::Refused(MALFORMED))
+}

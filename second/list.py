@@ -1,0 +1,135 @@
+#!/usr/bin/env python3
+"""Writes the list that crates/complete/stdin is: document 01's three lines; each row of its refusal table on both sides of each end;
+each rule for a blank field; and malformed lines of every kind, the last of them without an LF.
+
+    second/list.py > crates/complete/stdin
+"""
+import sys
+
+NAMES = "m rake vs30 dip w zhyp ztor rjb azimuth rrup z10 z15 z25".split()
+PLAIN = dict(zip(NAMES, "650 0 760 - 10000 - 3000 4000 30 - - - 2000".split()))
+lines = []
+
+
+def line(**changes):
+    """Document 01's first line, with some fields changed."""
+    fields = {**PLAIN, **{name: str(value) for name, value in changes.items()}}
+    lines.append(" ".join(fields[name] for name in NAMES).encode())
+
+
+def ends(name, *values, **others):
+    for value in values:
+        line(**{**others, name: value})
+
+
+# ---- document 01's listing
+line()
+line(m=851)
+line(rake=90, vs30=300, dip=40, rjb=0, azimuth=90)
+
+# ---- 1 to 9: each end of each range, both sides, and blank where a field may not be
+ends("rake", -181, -180, 180, 181, "-")
+ends("m", 399, 400, 850, 851, "-")
+ends("m", 399, 400, 800, 801, rake=31)
+ends("m", 399, 400, 750, 751, rake=-31)
+ends("rake", -150, -149, -31, -30, 30, 31, 149, 150, m=751)
+ends("rake", -150, -149, -31, -30, 30, 31, 149, 150, m=801)
+ends("vs30", 149, 150, 1500, 1501, "-")
+ends("dip", 0, 14, 15, 90, 91)
+ends("w", 0, 1, 100000, 100001)
+ends("zhyp", 0, 30000, 30001)
+ends("zhyp", 0, 15003, 21000, 21001, ztor="-")
+ends("ztor", 0, 15000, 15001)
+ends("rjb", 0, 200000, 200001, "-", ztor=0)
+ends("rjb", 199977, 199978)
+ends("azimuth", -181, -180, 180, 181, "-")
+# the first refusal of several is the one told
+line(m="-", rake=181)
+line(m=399, vs30=149, dip=14)
+line(ztor=15001, rjb=200001, azimuth=181)
+line(rjb=200001, rrup=200001, z10=10001)
+
+# ---- 10: dip below 90, RJB 0, azimuth 90, RRUP blank
+ends("dip", 89, 90, rjb=0, azimuth=90)
+ends("azimuth", 89, 90, 91, 0, 180, -90, dip=89, rjb=0)
+ends("rjb", 0, 1, dip=89, azimuth=90)
+line(dip=89, rjb=0, azimuth=90, rrup=3000)
+
+# ---- 11 and 12: RRUP
+ends("rrup", 200000, 200001, rjb=190000)
+ends("rrup", 0, 4122, 4123, 4124, ztor=1000)
+ends("rrup", 4998, 4999, 5000)
+ends("rrup", 0, 1, rjb=0, ztor=0)
+
+# ---- 13: the depths, also where another is used
+ends("z10", 10000, 10001)
+ends("z15", 10000, 10001)
+ends("z25", 0, 10000, 10001)
+ends("z15", 0, 6045, 6046, z25="-")
+ends("z10", 0, 1000, 2637, 2638, z25="-")
+line(z10=10001, z15=100, z25="-")
+line(z10=2638, z15=100, z25="-")
+
+# ---- estimates: the styles, the widths, the tops, the basins
+for rake in (0, 90, -90):
+    for m in (400, 550, 625, 700, 750):
+        line(m=m, rake=rake, w="-", ztor="-", z25="-")
+ends("vs30", 150, 179, 180, 181, 250, 499, 500, 501, 760, 1100, 1500, z25="-")
+for zhyp in (0, 5000, 12345):
+    ends("dip", 15, 37, 60, 90, zhyp=zhyp, ztor="-", w=7100)
+
+# ---- distances: both sides of the fault, and each of the three parts of the hanging wall
+ends("azimuth", -180, -90, -1, 0, 1, 30, 45, 60, 89, 90, 91, 120, 150, 179, 180, dip=40, rjb=4000)
+ends("azimuth", 10, 50, 90, 130, dip=40, rjb=30000, ztor=0)
+ends("azimuth", 10, 50, 90, 130, dip=60, rjb=700, ztor=9000)
+ends("rjb", 1, 100, 6000, 9000, 25000, 120000, 198000, dip=25, w=20000, azimuth=70)
+
+# ---- malformed
+whole = b" ".join(PLAIN[name].encode() for name in NAMES)
+lines += [
+    b"",
+    b" ",
+    b"-",
+    b" " + whole,
+    whole + b" ",
+    whole.replace(b" ", b"  ", 1),
+    whole.replace(b" ", b"\t", 1),
+    whole + b"\r",
+    b"\r",
+    b"\0",
+    whole + b"\0",
+    whole.replace(b"760", b"7\0000"),
+    whole.replace(b"760", b"\xff\xfe"),
+    b"\x80\x81\xfe\xff",
+    b"\xef\xbb\xbf" + whole,
+    whole.replace(b"650", b"+5"),
+    whole.replace(b"650", b"6.5"),
+    whole.replace(b"650", b"six"),
+    whole.replace(b" 0 ", b" -0 "),
+    whole.replace(b" 0 ", b" 00 "),
+    whole.replace(b" 0 ", b" 01 "),
+    whole.replace(b" 0 ", b" -01 "),
+    whole.replace(b" 0 ", b" --1 "),
+    whole.replace(b" 0 ", b" 1- "),
+    whole.replace(b"650", b"-650"),
+    whole.replace(b"4000", b"-4000"),
+    whole.replace(b"2000", b"-2000"),
+    whole.replace(b"10000", b"999999"),
+    whole.replace(b"10000", b"1000000"),
+    whole.replace(b" 0 ", b" -999999 "),
+    whole.replace(b" 0 ", b" -1000000 "),
+    whole.rsplit(b" ", 1)[0],
+    whole + b" -",
+    b"- - - - - - - - - - - - -",
+    b"- - - - - - - - - - - -",
+    b"- - - - - - - - - - - - - -",
+    b"999999 -999999 999999 999999 999999 999999 999999 999999 -999999 999999 999999 999999 999999",
+    b"9" * 100,
+    b"9" * 101,
+    whole + b" " * (100 - len(whole)),
+    whole + b" " * (101 - len(whole)),
+    b"x" * 300,
+    b"dip W ZTOR RRUP Z25 from",
+    whole,
+]
+sys.stdout.buffer.write(b"".join(l + b"\n" for l in lines) + whole)
