@@ -16,6 +16,15 @@ struct Turn {
     go_on: bool,
 }
 
+// Writes to standard output, or says why it cannot.
+fn put_out(s: &[u8]) -> bool {
+    let is_written = io::write_all(STDOUT_FILENO, s);
+    if !is_written {
+        os::fail(b"standard output");
+    }
+    is_written
+}
+
 // Answers a block of the list. The room lent is enough for the longest answer, so that each call of
 // the reader takes a byte at least.
 fn answer_block(first: Reader, block: &[u8], out: &mut [u8]) -> Turn
@@ -30,7 +39,7 @@ fn answer_block(first: Reader, block: &[u8], out: &mut [u8]) -> Turn
         let next = taken.reader;
         reader = next;
         at += took;
-        if !io::write_all(STDOUT_FILENO, &out[..wrote]) {
+        if !put_out(&out[..wrote]) {
             return Turn {
                 reader: reader,
                 go_on: false,
@@ -49,6 +58,13 @@ fn read_block(reader: Reader, input: &mut [u8], out: &mut [u8]) -> Turn
     requires { ⌜ 38 ≤ length (now out) ⌝ }
 {
     let got = libc::read(STDIN_FILENO, input);
+    if got < 0 {
+        os::fail(b"standard input");
+        return Turn {
+            reader: reader,
+            go_on: false,
+        };
+    }
     let n = io::count(got, input);
     if n == 0 {
         return Turn {
@@ -83,11 +99,11 @@ fn end_list(reader: Reader, out: &mut [u8]) {
     let Wrote::To(n) = close_list(reader, out) else {
         return;
     };
-    io::write_all(STDOUT_FILENO, &out[..n]);
+    put_out(&out[..n]);
 }
 
 fn main() {
-    io::write_all(STDOUT_FILENO, b"dip W ZTOR RRUP Z25 from\n");
+    put_out(b"dip W ZTOR RRUP Z25 from\n");
     let mut input = io::large_buffer();
     let mut out = io::large_buffer();
     let reader = read_list(&mut input, &mut out);

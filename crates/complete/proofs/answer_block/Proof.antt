@@ -60,16 +60,16 @@ made c =
 add-at : tie.Need-add-at Inv-loop μ-loop
 add-at c = omega (arith, made (c .before .before .before))
 
-slice-reshare-prefix-write-all : tie.Need-slice-reshare-prefix-write-all Inv-loop μ-loop
-slice-reshare-prefix-write-all c = let w = c .before .before .before in omega (arith, made w, w .take-part .kept .1 .1 .0)
+slice-reshare-prefix-put-out : tie.Need-slice-reshare-prefix-put-out Inv-loop μ-loop
+slice-reshare-prefix-put-out c = let w = c .before .before .before in omega (arith, made w, w .take-part .kept .1 .1 .0)
 
-slice-aggregate-write-all : tie.Need-slice-aggregate-write-all Inv-loop μ-loop
-slice-aggregate-write-all c =
+slice-aggregate-put-out : tie.Need-slice-aggregate-put-out Inv-loop μ-loop
+slice-aggregate-put-out c =
     let w = c .before .before .before .before in
     sym (length-take-le (w .take-part .result .wrote) (w .take-part .last .1 .1 .0) (omega (arith, made w, w .take-part .kept .1 .1 .0)))
 
-write-all-requires : tie.Need-write-all-requires Inv-loop μ-loop
-write-all-requires c κs = search needs
+put-out-requires : tie.Need-put-out-requires Inv-loop μ-loop
+put-out-requires c κs = search needs
 
 same-length : tie.Need-same-length Inv-loop μ-loop
 same-length c = search needs
@@ -101,9 +101,9 @@ answer-block-spec =
     part-take-part-end
     take-part-requires
     add-at
-    slice-reshare-prefix-write-all
-    slice-aggregate-write-all
-    write-all-requires
+    slice-reshare-prefix-put-out
+    slice-aggregate-put-out
+    put-out-requires
     same-length
     returns
     loop-less

@@ -34,14 +34,14 @@ fits c =
     let f = to-fits (length (now (s .args .out))) (closing (s .args .reader)) (c .n .given .0 .0) (rw (c .n .given .1) at (w .close-list .ensures .answer)) in
     omega (arith, f, w .close-list .kept .1 .0)
 
-slice-reshare-prefix-write-all : tie.Need-slice-reshare-prefix-write-all
-slice-reshare-prefix-write-all c = fits (c .before)
+slice-reshare-prefix-put-out : tie.Need-slice-reshare-prefix-put-out
+slice-reshare-prefix-put-out c = fits (c .before)
 
-slice-aggregate-write-all : tie.Need-slice-aggregate-write-all
-slice-aggregate-write-all c = let n = c .before .before in sym (length-take-le (n .n .given .0 .0) (n .before .before .before .before .close-list .last .1 .0) (fits n))
+slice-aggregate-put-out : tie.Need-slice-aggregate-put-out
+slice-aggregate-put-out c = let n = c .before .before in sym (length-take-le (n .n .given .0 .0) (n .before .before .before .before .close-list .last .1 .0) (fits n))
 
-write-all-requires : tie.Need-write-all-requires
-write-all-requires c κs = search needs
+put-out-requires : tie.Need-put-out-requires
+put-out-requires c κs = search needs
 
 same-length-2 : tie.Need-same-length-2
 same-length-2 c = search needs
@@ -58,8 +58,8 @@ end-list-spec =
     enum-told
     same-length
     returns
-    slice-reshare-prefix-write-all
-    slice-aggregate-write-all
-    write-all-requires
+    slice-reshare-prefix-put-out
+    slice-aggregate-put-out
+    put-out-requires
     same-length-2
     returns-2)
