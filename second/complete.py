@@ -7,7 +7,7 @@ Rattle program.
 
 made the expected file: the list crates/complete/stdin is written by second/list.py, and no byte of the expected output comes from the
 Rattle program. A figure is rounded to the metre as docs say: W, ZTOR and Z2.5 down, RRUP up. Floating point decides a rounding only
-where the value is whole or lies clear of a whole metre, so a line with another estimate within 2 mm of one is named on standard error;
+where the value is whole or lies clear of a whole metre, so a line with another estimate within 3 mm of one is named on standard error;
 the list has none."""
 import math
 import re
@@ -31,7 +31,7 @@ class Refused(Exception):
 
 def rounded(value, up):
     """The whole metre below or above, and a note where floating point may not decide it. A whole value comes of exact steps."""
-    if 0 < abs(value - round(value)) < 0.002:
+    if 0 < abs(value - round(value)) < 0.003:
         near.append(value)
     return math.ceil(value) if up else math.floor(value)
 
@@ -112,7 +112,7 @@ def distance(dip, azimuth, w, ztor, rjb):
     else:
         r = math.hypot(rx - h, ztor + w * sd)
     exact = math.hypot(r, ry)
-    return least if exact <= least - 0.002 else max(least, rounded(exact, up=True))
+    return least if exact <= least - 0.003 else max(least, rounded(exact, up=True))
 
 
 def test(number, field, low, high, star=True):

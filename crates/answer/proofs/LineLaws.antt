@@ -1,11 +1,13 @@
--- A text put byte by byte; how long the lines are; and from a text that was put, or did not fit, to what a line writer promises.
+-- A text put byte by byte; how long the lines are; from a text that was put, or did not fit, to what a line writer promises; and back.
 -- Assumes nothing.
 use Prim.Native.Nat.{ℕ, _+_, _≤_, _<_}
 use mathlib.Core.Path.{_≡_, refl, sym, ap, _∙_}
+use mathlib.Core.Bool.{Bool, true, false, cond}
 use mathlib.Core.List.{List, [], _∷_, _++_}
 use native.Mathlib.Omega.{arith}
 use native.Mathlib.Numerals.{add-one}
-use borrow.Author.Tests.{lt-ltb, le-ltb}
+use borrow.Author.Tests.{lt-ltb, le-ltb, ltb-true, ltb-false}
+use lib.Dec.{ltb}
 use lib.ListN.{length, getD, take, drop, set, length-append, take-append-drop}
 use lib.Seq.{length-take-le, take-suc}
 use Rattle.completion.specs.declared.figure.Figure.{Figure}
@@ -68,6 +70,36 @@ writes {b} {s} {r} h w =
       bytes = rw (le-ltb (length b) (length s) h) (w .bytes);
     }
 
+-- a text of no bytes
+pub nothing-written : (b : List ℕ) → LineWritten b [] (W.To 0) b
+nothing-written b = writes (omega arith) (record { place = refl; bytes = put-nothing b 0 })
+
 -- one answer and one state of the bytes
 pub line-written-one : {b s : List ℕ} {q r : Wrote} {b₁ b₂ : List ℕ} → LineWritten b s q b₁ → LineWritten b s r b₂ → (q ≡ r) × (b₁ ≡ b₂)
 line-written-one v w = (v .answer ∙ sym (w .answer), v .bytes ∙ sym (w .bytes))
+
+-- ---- what a line writer's answer says of the room
+module _ (n : ℕ) (s : List ℕ) where
+  pub to-fits : (k : ℕ) → W.To k ≡ wrote n s → (length s ≤ n) × (k ≡ length s)
+  unfolding wrote
+  to-fits k e = go (ltb n (length s)) refl e
+    where
+      go : (t : Bool) → ltb n (length s) ≡ t → W.To k ≡ cond t (W.Refused 16) (W.To (length s)) → (length s ≤ n) × (k ≡ length s)
+      go true h g = let z : _≡_ {A = ℕ} 0 1 = cc in absurd (omega arith)
+      go false h g = (ltb-false n (length s) h, cc)
+
+  pub refused-full : (k : ℕ) → W.Refused k ≡ wrote n s → n < length s
+  unfolding wrote
+  refused-full k e = go (ltb n (length s)) refl e
+    where
+      go : (t : Bool) → ltb n (length s) ≡ t → W.Refused k ≡ cond t (W.Refused 16) (W.To (length s)) → n < length s
+      go true h g = ltb-true n (length s) h
+      go false h g = let z : _≡_ {A = ℕ} 0 1 = cc in absurd (omega arith)
+
+pub after-fits : (b s : List ℕ) → length s ≤ length b → after b s ≡ put b 0 s
+unfolding after
+after-fits b s h = rw (le-ltb (length b) (length s) h)
+
+pub after-full : (b s : List ℕ) → length b < length s → after b s ≡ b
+unfolding after
+after-full b s h = rw (lt-ltb (length b) (length s) h)

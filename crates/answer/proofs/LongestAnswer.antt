@@ -12,7 +12,7 @@ use borrow.Author.Tests.{ltb-false}
 use Rattle.request.specs.declared.Request.{Request}
 use Rattle.completion.specs.Figures.{rrup, z25}
 use Rattle.completion.specs.Refusals.{Rows, first, sourceGiven, sourceRows, pathGiven, tooShort, pathRows, siteGiven, siteRows, rows, refusal}
-use Rattle.completion.specs.Answers.{completed, answer, completionOf}
+use Rattle.completion.specs.Answers.{completed, answer}
 use Rattle.completion.proofs.Rows.{clear, first-both}
 use Rattle.completion.proofs.ExactlyWhen.{stages}
 use Rattle.completion.proofs.Ranges.{source-range, source-given, top-range}
@@ -20,7 +20,7 @@ use Rattle.text.specs.declared.read.Line.{Line}
 use Rattle.text.specs.declared.read.Line.the-variants as L
 use Rattle.text.specs.Grammar.{lineOf}
 use Rattle.text.proofs.RenderLaws.{length-render}
-use Rattle.answer.specs.Lines.{okLine, noLine, completionLine, replyOf, answerTo}
+use Rattle.answer.specs.Lines.{longestAnswer, okLine, noLine, completionLine, replyOf, answerTo}
 use Rattle.answer.proofs.LineLaws.{length-ok, length-no}
 
 -- ---- the numbers of refusals
@@ -53,7 +53,7 @@ z25-high r e =
     ltb-false 10000 (z25 r .value) (clear (13, ltb 10000 (z25 r .value)) [] tt (t .1) .0)
 
 -- ---- the lines
-ok-short : (r : Request) → refusal r ≡ 0 → length (okLine (completed r)) ≤ 38
+ok-short : (r : Request) → refusal r ≡ 0 → length (okLine (completed r)) ≤ longestAnswer
 unfolding completed
 ok-short r e =
     let s = stages r e in
@@ -68,18 +68,18 @@ ok-short r e =
       length-render 4 (completed r .z25 .value) (omega (arith, z25-high r (s .site))),
     )
 
-no-short : (n : ℕ) → n ≤ 14 → length (noLine n) ≤ 38
+no-short : (n : ℕ) → n ≤ 14 → length (noLine n) ≤ longestAnswer
 no-short n h = omega (arith, length-no n, length-render 1 n (omega arith))
 
-reply-short : (l : Line) → length (completionLine (replyOf l)) ≤ 38
+reply-short : (l : Line) → length (completionLine (replyOf l)) ≤ longestAnswer
 unfolding completionLine replyOf answer
 reply-short L.Malformed = no-short 14 (omega arith)
 reply-short (L.Is r) = go (refusal r) refl
   where
-    go : (n : ℕ) → refusal r ≡ n → length (completionLine (answer n r)) ≤ 38
+    go : (n : ℕ) → refusal r ≡ n → length (completionLine (answer n r)) ≤ longestAnswer
     go zero e = ok-short r e
     go (suc n) e = no-short (suc n) (omega (arith, refusal-small r))
 
-pub answer-short : (s : List ℕ) → length (answerTo s) ≤ 38
+pub answer-short : (s : List ℕ) → length (answerTo s) ≤ longestAnswer
 unfolding answerTo
 answer-short s = reply-short (lineOf s)

@@ -1,22 +1,24 @@
 -- An answer line, read back, tells the answer that it was made from: each figure stands before its space, each letter at its place, and the
 -- number of a refusal before the LF. Assumes nothing.
 use Prim.Native.Nat.{ℕ, _+_, _-_}
-use mathlib.Core.Path.{_≡_, refl, sym, ap, _∙_}
+use mathlib.Core.Path.{_≡_, refl, ap, _∙_}
 use mathlib.Core.Bool.{Bool, true, false, cond}
 use mathlib.Core.List.{List, [], _∷_, _++_, append-assoc}
 use native.Mathlib.Omega.{arith}
-use lib.Dec.{eqb}
-use lib.ListN.{length, getD, take, drop, length-append}
+use lib.ListN.{length, getD, take, length-append}
 use lib.Seq.{take-append-seam, drop-at, take-at}
 use Rattle.completion.specs.declared.figure.Figure.{Figure}
 use Rattle.completion.specs.declared.Completed.{Completed}
 use Rattle.completion.specs.declared.Completion.{Completion}
 use Rattle.completion.specs.declared.Completion.the-variants as C
 use Rattle.text.specs.Grammar.{space, spaceAt, digitsOf}
-use Rattle.text.specs.Render.{ascii, render}
+use Rattle.text.specs.Render.{ascii, render, put}
+use Rattle.text.proofs.PutLaws.{text-put}
 use Rattle.text.proofs.RoundTrip.{digits-back, space-past, number-no-space}
-use Rattle.answer.specs.Lines.{lf, estimate, given, letterOf, spaced, letters, okLine, noLine, completionLine}
-use Rattle.answer.specs.ReadBack.{Report, figures, number, reportOf, valueOf, numberIn, behind, figureIn, figuresIn, readBack}
+use Rattle.answer.specs.declared.Wrote.the-variants as W
+use Rattle.answer.specs.Lines.{lf, estimate, given, letterOf, spaced, letters, okLine, noLine, completionLine, LineWritten}
+use Rattle.answer.specs.ReadBack.{figures, number, reportOf, valueOf, numberIn, behind, figureIn, figuresIn, readBack}
+use Rattle.answer.proofs.LineLaws.{to-fits, after-fits}
 
 -- ---- a figure and what stands behind it
 module _ (f : Figure) (s : List ℕ) where
@@ -99,8 +101,18 @@ no-back n =
     (take-at (render n) (lf ∷ []) (length (render n ++ (lf ∷ [])) - 1) (omega (arith, length-append (render n) (lf ∷ []))))
     ∙ rw (digits-back n)
 
--- what was written, read back from the lent bytes
 pub line-back : (c : Completion) → readBack (completionLine c) ≡ reportOf c
 unfolding completionLine reportOf
 line-back (C.Done c) = ok-back c
 line-back (C.Refused n) = no-back n
+
+-- what a writer left in the lent bytes, read back from them
+pub written-back :
+    (c : Completion) {b b₁ : List ℕ} (n : ℕ) → LineWritten b (completionLine c) (W.To n) b₁ → readBack (take n b₁) ≡ reportOf c
+written-back c {b} {b₁} n w =
+    let s = completionLine c in
+    let f = to-fits (length b) s n (w .answer) in
+    ap (λ (l : List ℕ). readBack (take n l)) (w .bytes ∙ after-fits b s (f .0))
+    ∙ ap (λ (k : ℕ). readBack (take k (put b 0 s))) (f .1)
+    ∙ ap readBack (text-put b 0 s (omega (arith, f .0)))
+    ∙ line-back c

@@ -71,6 +71,10 @@ unfoldable pub answerTo : List ℕ → List ℕ
 unfolding completionLine replyOf lineOf
 answerTo s = completionLine (replyOf (lineOf s))
 
+-- no answer to a line is longer, its LF counted
+abbrev pub longestAnswer : ℕ
+longestAnswer = 38
+
 -- ---- lent bytes
 -- the answer of a writer that is lent n bytes for the line s: refusal 16 if s is longer
 unfoldable pub wrote : ℕ → List ℕ → Wrote

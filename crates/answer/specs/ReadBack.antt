@@ -1,11 +1,10 @@
 -- An answer line read back: the five figures with their letters, or the refusal's number. Definitions only.
 use Prim.Native.Nat.{ℕ, _+_, _-_}
-use mathlib.Core.Bool.{Bool, cond}
+use mathlib.Core.Bool.{cond}
 use mathlib.Core.List.{List}
 use lib.Dec.{eqb}
 use lib.ListN.{length, getD, take, drop}
 use Rattle.completion.specs.declared.figure.Figure.{Figure}
-use Rattle.completion.specs.declared.Completed.{Completed}
 use Rattle.completion.specs.declared.Completion.{Completion}
 use Rattle.completion.specs.declared.Completion.the-variants as C
 use Rattle.text.specs.declared.figures.Number.{Number}

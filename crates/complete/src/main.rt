@@ -9,6 +9,7 @@ use lists::new_reader;
 use lists::take_part;
 ghost use Prim.Native.Nat.{_≤_};
 ghost use lib.ListN.{length};
+ghost use Rattle.answer.specs.Lines.{longestAnswer};
 
 // The reader after a block, and whether to go on.
 struct Turn {
@@ -28,7 +29,7 @@ fn put_out(s: &[u8]) -> bool {
 // Answers a block of the list. The room lent is enough for the longest answer, so that each call of
 // the reader takes a byte at least.
 fn answer_block(first: Reader, block: &[u8], out: &mut [u8]) -> Turn
-    requires { ⌜ 38 ≤ length (now out) ⌝ }
+    requires { ⌜ longestAnswer ≤ length (now out) ⌝ }
 {
     let mut reader = first;
     let mut at = 0usize;
@@ -55,7 +56,7 @@ fn answer_block(first: Reader, block: &[u8], out: &mut [u8]) -> Turn
 // Reads a block and answers it. There is nothing to go on with once the input has ended, cannot be
 // read, or no answer can be written.
 fn read_block(reader: Reader, input: &mut [u8], out: &mut [u8]) -> Turn
-    requires { ⌜ 38 ≤ length (now out) ⌝ }
+    requires { ⌜ longestAnswer ≤ length (now out) ⌝ }
 {
     let got = libc::read(STDIN_FILENO, input);
     if got < 0 {
@@ -78,7 +79,7 @@ fn read_block(reader: Reader, input: &mut [u8], out: &mut [u8]) -> Turn
 // Reads the list to its end. A proved loop has to end, and nothing says that the input does: the
 // turns are counted down from a number that no run uses up.
 fn read_list(input: &mut [u8], out: &mut [u8]) -> Reader
-    requires { ⌜ 38 ≤ length (now out) ⌝ }
+    requires { ⌜ longestAnswer ≤ length (now out) ⌝ }
 {
     let mut reader = new_reader();
     let mut turns = u64::MAX;

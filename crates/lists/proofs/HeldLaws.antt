@@ -43,7 +43,7 @@ unfolding closing answersFrom
 closing-none r e = rw (ap length (held-whole (r .held) (r .count) (omega arith)), e)
 
 -- a line has bytes
-some-held : (r : Reader) → length (r .held) ≡ 100 → 0 < r .count → 0 < length (lineIn r)
+some-held : (r : Reader) → length (r .held) ≡ longest → 0 < r .count → 0 < length (lineIn r)
 some-held r l h = go (ltb longest (r .count)) refl
   where
     go : (t : Bool) → ltb longest (r .count) ≡ t → 0 < length (lineIn r)
@@ -52,6 +52,6 @@ some-held r l h = go (ltb longest (r .count)) refl
         let k = ltb-false longest (r .count) e in
         omega (arith, ap length (held-whole (r .held) (r .count) k), length-take-le (r .count) (r .held) (omega arith))
 
-pub closing-some : (r : Reader) → length (r .held) ≡ 100 → 0 < r .count → closing r ≡ completionLine (C.Refused 14)
+pub closing-some : (r : Reader) → length (r .held) ≡ longest → 0 < r .count → closing r ≡ completionLine (C.Refused 14)
 unfolding closing answersFrom completionLine
 closing-some r l h = rw (ne-eqb (length (lineIn r)) 0 (λ e. omega (arith, some-held r l h)))

@@ -1,48 +1,11 @@
--- A line written behind others in lent bytes, and what its writer's answer says of the room. Assumes nothing.
-use Prim.Native.Nat.{ℕ, _+_, _-_, _≤_, _<_}
-use mathlib.Core.Path.{_≡_, refl, sym, ap, _∙_}
-use mathlib.Core.Bool.{Bool, true, false, cond}
-use mathlib.Core.List.{List, [], _∷_, _++_, append-nil}
+-- A line written behind others in lent bytes. Assumes nothing.
+use Prim.Native.Nat.{ℕ, _+_, _-_, _≤_}
+use mathlib.Core.Path.{_≡_, sym, ap, _∙_}
+use mathlib.Core.List.{List, [], _++_, append-nil}
 use native.Mathlib.Omega.{arith}
-use borrow.Author.Tests.{ltb-true, ltb-false, lt-ltb, le-ltb}
-use lib.Dec.{ltb}
 use lib.ListN.{length, take, drop, length-drop, drop-of-length-le, take-append-drop}
 use lib.Seq.{drop-drop, length-take-le}
 use Rattle.text.specs.Render.{put}
-use Rattle.answer.specs.declared.Wrote.{Wrote}
-use Rattle.answer.specs.declared.Wrote.the-variants as W
-use Rattle.answer.specs.Lines.{wrote, after, LineWritten}
-use Rattle.answer.proofs.LineLaws.{put-nothing, writes}
-
--- ---- the writer's answer
-module _ (n : ℕ) (s : List ℕ) where
-  pub to-fits : (k : ℕ) → W.To k ≡ wrote n s → (length s ≤ n) × (k ≡ length s)
-  unfolding wrote
-  to-fits k e = go (ltb n (length s)) refl e
-    where
-      go : (t : Bool) → ltb n (length s) ≡ t → W.To k ≡ cond t (W.Refused 16) (W.To (length s)) → (length s ≤ n) × (k ≡ length s)
-      go true h g = let z : _≡_ {A = ℕ} 0 1 = cc in absurd (omega arith)
-      go false h g = (ltb-false n (length s) h, cc)
-
-  pub refused-full : (k : ℕ) → W.Refused k ≡ wrote n s → n < length s
-  unfolding wrote
-  refused-full k e = go (ltb n (length s)) refl e
-    where
-      go : (t : Bool) → ltb n (length s) ≡ t → W.Refused k ≡ cond t (W.Refused 16) (W.To (length s)) → n < length s
-      go true h g = ltb-true n (length s) h
-      go false h g = let z : _≡_ {A = ℕ} 0 1 = cc in absurd (omega arith)
-
-pub after-fits : (b s : List ℕ) → length s ≤ length b → after b s ≡ put b 0 s
-unfolding after
-after-fits b s h = rw (le-ltb (length b) (length s) h)
-
-pub after-full : (b s : List ℕ) → length b < length s → after b s ≡ b
-unfolding after
-after-full b s h = rw (lt-ltb (length b) (length s) h)
-
--- a text of no bytes
-pub nothing-written : (b : List ℕ) → LineWritten b [] (W.To 0) b
-nothing-written b = writes (omega arith) (record { place = refl; bytes = put-nothing b 0 })
 
 -- ---- a part of lent bytes, given back
 -- the bytes b once their part from w on has become x

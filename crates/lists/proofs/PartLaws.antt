@@ -12,10 +12,11 @@ use Rattle.text.specs.Render.{put}
 use Rattle.text.proofs.PutLaws.{take-put, drop-put, length-put}
 use Rattle.answer.specs.declared.Wrote.the-variants as W
 use Rattle.answer.specs.Lines.{lf, answerTo, LineWritten}
+use Rattle.answer.proofs.LineLaws.{to-fits, refused-full, after-fits, after-full}
 use Rattle.lists.specs.declared.Reader.{Reader}
 use Rattle.lists.specs.declared.Taken.{Taken}
-use Rattle.lists.specs.Parts.{heldLine, lineIn, fresh, grown, Stand, readFrom, PartTaken}
-use Rattle.lists.proofs.LentLaws.{to-fits, refused-full, after-fits, after-full, givenBack, back-same, back-put, put-front}
+use Rattle.lists.specs.Parts.{lineIn, fresh, grown, Stand, readFrom, PartTaken}
+use Rattle.lists.proofs.LentLaws.{givenBack, back-same, back-put, put-front}
 
 -- ---- what the reader makes of a part from a place on, by the byte at that place
 module _ (room : ℕ) (r : Reader) (text part : List ℕ) (i : ℕ) where
@@ -51,14 +52,14 @@ grown-over r c h = rw (le-ltb (r .count) longest h)
 -- ---- from turn to turn
 -- the rest of the part makes of the reader and the text so far what the whole part makes of the reader at its start
 pub record Going (part out₀ : List ℕ) (r₀ r : Reader) (out : List ℕ) (wrote i : ℕ) : Type 0 where
-  pub held-length : length (r .held) ≡ 100
+  pub held-length : length (r .held) ≡ longest
   pub taken : i ≤ length part
   pub written : wrote ≤ length out
   pub out-length : length out ≡ length out₀
   pub behind : drop wrote out ≡ drop wrote out₀
   pub same : readFrom (length out₀) r (take wrote out) (drop i part) ≡ readFrom (length out₀) r₀ [] part
 
-pub begins : (part out : List ℕ) (r : Reader) → length (r .held) ≡ 100 → Going part out r r out 0 0
+pub begins : (part out : List ℕ) (r : Reader) → length (r .held) ≡ longest → Going part out r r out 0 0
 begins part out r h = record { held-length = h; taken = omega arith; written = omega arith; out-length = refl; behind = refl; same = refl }
 
 module _ {part out₀ : List ℕ} {r₀ r : Reader} {out : List ℕ} {wrote i : ℕ} (g : Going part out₀ r₀ r out wrote i) where
@@ -160,3 +161,12 @@ module _ {part out₀ : List ℕ} {r₀ r : Reader} {out : List ℕ} {wrote i : 
           subst (λ (b : List ℕ). PartTaken r₀ part out₀ (record { reader = r; took = i; wrote = wrote }) b)
           (sym (ap (givenBack out wrote) same ∙ back-same out wrote))
           (line-full (omega (arith, left-over, g .written)))
+
+-- ---- one answer and one state of the bytes
+same-taken : {a b : Reader} {i j m n : ℕ} → a ≡ b → i ≡ j → m ≡ n
+    → _≡_ {A = Taken} (record { reader = a; took = i; wrote = m }) (record { reader = b; took = j; wrote = n })
+same-taken p q e = cc
+
+pub part-taken-one : {r : Reader} {part b : List ℕ} {t u : Taken} {b₁ b₂ : List ℕ} → PartTaken r part b t b₁ → PartTaken r part b u b₂ → (t ≡ u) × (b₁ ≡ b₂)
+part-taken-one v w =
+    (same-taken (v .reader ∙ sym (w .reader)) (omega (arith, v .took, w .took)) (v .wrote ∙ sym (w .wrote)), v .bytes ∙ sym (w .bytes))

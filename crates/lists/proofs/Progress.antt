@@ -8,7 +8,7 @@ use native.Mathlib.Omega.{arith}
 use borrow.Author.Tests.{ltb-true, ltb-false}
 use lib.Dec.{ltb, eqb}
 use lib.ListN.{length}
-use Rattle.answer.specs.Lines.{lf, answerTo}
+use Rattle.answer.specs.Lines.{lf, longestAnswer, answerTo}
 use Rattle.answer.proofs.LongestAnswer.{answer-short}
 use Rattle.lists.specs.declared.Reader.{Reader}
 use Rattle.lists.specs.declared.Taken.{Taken}
@@ -53,7 +53,7 @@ module _ (room : ℕ) where
       (λ k. omega (arith, left-less (fresh r) (text ++ answerTo (lineIn r)) cs))
       (omega (arith, left-less (grown r c) text cs))
 
-  moves : 38 ≤ room → (r : Reader) (part : List ℕ) → 0 < length part → length (readFrom room r [] part .left) < length part
+  moves : longestAnswer ≤ room → (r : Reader) (part : List ℕ) → 0 < length part → length (readFrom room r [] part .left) < length part
   moves h r [] k = absurd (omega arith)
   moves h r (c ∷ cs) k =
       by-byte (λ p. length (p .left) < length (c ∷ cs)) r [] c cs
@@ -68,5 +68,5 @@ module _ {r : Reader} {part b : List ℕ} {t : Taken} {b₁ : List ℕ} (p : Par
   pub took-fits : t .took ≤ length part
   took-fits = omega (arith, p .took)
 
-  pub took-some : 38 ≤ length b → 0 < length part → 0 < t .took
+  pub took-some : longestAnswer ≤ length b → 0 < length part → 0 < t .took
   took-some h k = omega (arith, p .took, moves (length b) h r part k)

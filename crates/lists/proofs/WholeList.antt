@@ -1,22 +1,21 @@
 -- A list read in parts, cut anywhere, gets the answer lines of the whole: what is owed for a part and whatever follows it is what was
 -- written, and what is owed for the bytes left and what follows.
 -- Assumes nothing.
-use Prim.Native.Nat.{ℕ, suc, _+_, _≤_, _<_}
+use Prim.Native.Nat.{ℕ, _+_, _≤_, _<_}
 use mathlib.Core.Path.{_≡_, refl, sym, ap, _∙_}
 use mathlib.Core.Bool.{Bool, true, false, cond}
 use mathlib.Core.List.{List, [], _∷_, _++_, append-assoc}
 use native.Mathlib.Omega.{arith}
 use native.Mathlib.Numerals.{add-one}
-use borrow.Author.Tests.{lt-ltb, le-ltb, ltb-true, ltb-false, ne-eqb}
+use borrow.Author.Tests.{ltb-true, ltb-false, ne-eqb}
 use lib.Dec.{ltb, eqb}
-use lib.ListN.{length, take, set, replicate, length-replicate, length-append, length-set}
+use lib.ListN.{length, set, length-replicate, length-append, length-set}
 use lib.Seq.{take-suc-set, length-take-le}
 use Rattle.text.specs.Grammar.{longest}
-use Rattle.answer.specs.Lines.{lf, noLine, answerTo}
-use Rattle.answer.proofs.LongestAnswer.{answer-short}
+use Rattle.answer.specs.Lines.{lf, answerTo}
 use Rattle.lists.specs.declared.Reader.{Reader}
 use Rattle.lists.specs.Whole.{answersFrom, answersTo}
-use Rattle.lists.specs.Parts.{heldLine, lineIn, newReader, fresh, grown, closing, Stand, readFrom}
+use Rattle.lists.specs.Parts.{lineIn, newReader, fresh, grown, closing, Stand, readFrom}
 use Rattle.lists.proofs.HeldLaws.{held-over, held-whole, over-answer}
 use Rattle.lists.proofs.PartLaws.{grown-held, grown-over}
 
@@ -32,11 +31,11 @@ over-alike a b (c ∷ cs) h k =
     )
 
 -- ---- one byte more
-module _ (r : Reader) (full : length (r .held) ≡ 100) (c : ℕ) where
-  pub grown-full : length (grown r c .held) ≡ 100
+module _ (r : Reader) (full : length (r .held) ≡ longest) (c : ℕ) where
+  pub grown-full : length (grown r c .held) ≡ longest
   grown-full = go (ltb (r .count) longest) refl
     where
-      go : (t : Bool) → ltb (r .count) longest ≡ t → length (grown r c .held) ≡ 100
+      go : (t : Bool) → ltb (r .count) longest ≡ t → length (grown r c .held) ≡ longest
       go true e =
           ap (λ (q : Reader). length (q .held)) (grown-held r c (ltb-true (r .count) longest e)) ∙ length-set (r .held) (r .count) c ∙ full
       go false e = ap (λ (q : Reader). length (q .held)) (grown-over r c (ltb-false (r .count) longest e)) ∙ full
@@ -83,7 +82,7 @@ no-line r = held-whole (r .held) 0 (omega arith)
 
 module _ (room : ℕ) (s : List ℕ) where
   -- by its first byte
-  module _ (r : Reader) (full : length (r .held) ≡ 100) (text : List ℕ) (c : ℕ) (cs : List ℕ) where
+  module _ (r : Reader) (full : length (r .held) ≡ longest) (text : List ℕ) (c : ℕ) (cs : List ℕ) where
     abbrev line : List ℕ
     line = answerTo (lineIn r)
 
@@ -102,7 +101,7 @@ module _ (room : ℕ) (s : List ℕ) where
 
   -- the same once the part is read
   pub part-is :
-      (r : Reader) (text part : List ℕ) → length (r .held) ≡ 100
+      (r : Reader) (text part : List ℕ) → length (r .held) ≡ longest
       → owed (record { reader = r; text = text; left = part }) s ≡ owed (readFrom room r text part) s
   unfolding readFrom answersFrom
   part-is r text [] h = refl
@@ -112,7 +111,7 @@ module _ (room : ℕ) (s : List ℕ) where
       (part-is (grown r c) text cs (grown-full r h c))
 
   -- and the array keeps its length
-  pub part-full : (r : Reader) (text part : List ℕ) → length (r .held) ≡ 100 → length (readFrom room r text part .reader .held) ≡ 100
+  pub part-full : (r : Reader) (text part : List ℕ) → length (r .held) ≡ longest → length (readFrom room r text part .reader .held) ≡ longest
   unfolding readFrom
   part-full r text [] h = h
   part-full r text (c ∷ cs) h =
@@ -121,13 +120,13 @@ module _ (room : ℕ) (s : List ℕ) where
     where
       go :
           (a b : Bool)
-          → length (readFrom room (fresh r) (text ++ answerTo (lineIn r)) cs .reader .held) ≡ 100
-          → length (readFrom room (grown r c) text cs .reader .held) ≡ 100
+          → length (readFrom room (fresh r) (text ++ answerTo (lineIn r)) cs .reader .held) ≡ longest
+          → length (readFrom room (grown r c) text cs .reader .held) ≡ longest
           → length
           (cond a
           (cond b (record { reader = r; text = text; left = c ∷ cs }) (readFrom room (fresh r) (text ++ answerTo (lineIn r)) cs))
           (readFrom room (grown r c) text cs) .reader .held)
-          ≡ 100
+          ≡ longest
       go true true f g = h
       go true false f g = f
       go false b f g = g
@@ -141,7 +140,7 @@ pub data Answered : Reader → List ℕ → List ℕ → Type 0 where
       → Answered (readFrom room r [] part .reader) (readFrom room r [] part .left ++ s) text
       → Answered r (part ++ s) (readFrom room r [] part .text ++ text)
 
-answered-from : {r : Reader} {s text : List ℕ} → length (r .held) ≡ 100 → Answered r s text → text ≡ answersFrom (lineIn r) s
+answered-from : {r : Reader} {s text : List ℕ} → length (r .held) ≡ longest → Answered r s text → text ≡ answersFrom (lineIn r) s
 unfolding closing
 answered-from h (closed r) = refl
 answered-from h (offered room r part s text a) =

@@ -6,6 +6,7 @@ use answer::write_completion;
 use completion::Completion;
 ghost use mathlib.Core.Path.{_≡_};
 ghost use lib.ListN.{length};
+ghost use Rattle.text.specs.Grammar.{longest};
 ghost use Rattle.answer.specs.Lines.{answerTo, LineWritten};
 ghost use Rattle.lists.specs.Parts.{heldLine, newReader, closing, PartTaken};
 
@@ -43,7 +44,7 @@ pub fn new_reader() -> Reader
 
 // The answer line of the line held, into `out`; or refusal 16.
 fn answer_held(held: &[u8], count: usize, out: &mut [u8]) -> Wrote
-    requires { ⌜ length (now held) ≡ 100 ⌝ }
+    requires { ⌜ length (now held) ≡ longest ⌝ }
     ensures { λ r. ⌜ LineWritten (now (out .entry)) (answerTo (heldLine (now (held .entry)) count)) r (now (out .exit)) ⌝ }
 {
     if LONGEST < count {

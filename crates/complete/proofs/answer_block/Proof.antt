@@ -8,12 +8,13 @@ use borrow.Author.Needs.{needs}
 use denote.Ref.{now}
 use lib.ListN.{length, take, drop, length-drop}
 use lib.Seq.{length-take-le}
+use Rattle.answer.specs.Lines.{longestAnswer}
 use Rattle.lists.proofs.Progress.{wrote-fits, took-fits, took-some}
 use Rattle.complete.proofs.answer_block.Statement.{statement}
 use Rattle.complete.proofs.answer_block.Tie as tie
 
 abbrev Inv-loop : tie.InvT-loop
-Inv-loop block out₀ reader₀ at₀ out reader at = (at ≤ length block) × (38 ≤ length out) × (length out ≡ length out₀)
+Inv-loop block out₀ reader₀ at₀ out reader at = (at ≤ length block) × (longestAnswer ≤ length out) × (length out ≡ length out₀)
 
 abbrev μ-loop : tie.MeasureT-loop
 μ-loop block out₀ reader₀ at₀ out reader at = length block - at

@@ -6,8 +6,8 @@ use borrow.Author.Needs.{needs}
 use denote.Ref.{now}
 use lib.ListN.{length}
 use lib.Seq.{length-take-le}
+use Rattle.answer.proofs.LineLaws.{to-fits}
 use Rattle.lists.specs.Parts.{closing}
-use Rattle.lists.proofs.LentLaws.{to-fits}
 use Rattle.complete.proofs.end_list.Statement.{statement}
 use Rattle.complete.proofs.end_list.Tie as tie
 

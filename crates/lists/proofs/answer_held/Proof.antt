@@ -1,9 +1,8 @@
 -- A line too long for a line is malformed; any other is held whole. Assumes nothing.
 use borrow.Author.Needs.{needs}
-use mathlib.Core.Path.{_≡_, sym}
+use mathlib.Core.Path.{sym}
 use native.Mathlib.Omega.{arith}
 use denote.Ref.{now}
-use lib.ListN.{length}
 use lib.Seq.{length-take-le}
 use Rattle.lists.proofs.HeldLaws.{held-whole, over-held}
 use Rattle.lists.proofs.answer_held.Statement.{statement}

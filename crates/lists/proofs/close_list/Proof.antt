@@ -1,13 +1,9 @@
 -- A list that ends in LF, or has no byte, is owed nothing more; an unfinished line gets 14. Assumes nothing.
 use borrow.Author.Needs.{needs}
-use mathlib.Core.Path.{_≡_, refl, _∙_}
-use mathlib.Core.List.{[]}
 use native.Mathlib.Omega.{arith}
 use denote.Ref.{now}
-use lib.ListN.{length}
-use Rattle.answer.specs.Lines.{LineWritten}
+use Rattle.answer.proofs.LineLaws.{nothing-written}
 use Rattle.lists.proofs.HeldLaws.{closing-none, closing-some}
-use Rattle.lists.proofs.LentLaws.{nothing-written}
 use Rattle.lists.proofs.close_list.Statement.{statement}
 use Rattle.lists.proofs.close_list.Tie as tie
 

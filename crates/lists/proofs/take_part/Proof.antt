@@ -7,8 +7,8 @@ use denote.Ref.{now}
 use lib.ListN.{length, drop, length-drop}
 use Rattle.text.proofs.FigureLaws.{rest}
 use Rattle.answer.specs.Lines.{answerTo, LineWritten}
+use Rattle.answer.proofs.LineLaws.{to-fits}
 use Rattle.lists.specs.Parts.{heldLine}
-use Rattle.lists.proofs.LentLaws.{to-fits}
 use Rattle.lists.proofs.PartLaws.{Going, begins, ends, byte-held, byte-over, line-answered, line-refused}
 use Rattle.lists.proofs.take_part.Statement.{statement}
 use Rattle.lists.proofs.take_part.Tie as tie

@@ -1,6 +1,5 @@
 -- The six bytes are the definition's, each by its own function. Assumes nothing.
 use borrow.Author.Needs.{needs}
-use native.Mathlib.Omega.{arith}
 use Rattle.answer.specs.Lines.{letters}
 use Rattle.answer.proofs.write.put_letters.Statement.{statement}
 use Rattle.answer.proofs.write.put_letters.Tie as tie

@@ -1,9 +1,7 @@
 -- The line is counted, and written where it fits. Assumes nothing.
 use borrow.Author.Needs.{needs}
-use Prim.Native.Nat.{_≤_, _<_}
 use native.Mathlib.Omega.{arith}
 use denote.Ref.{now}
-use lib.ListN.{length}
 use Rattle.answer.specs.Lines.{okLine}
 use Rattle.answer.proofs.LineLaws.{refuses, writes}
 use Rattle.answer.proofs.write.write_ok.Statement.{statement}
