@@ -1,0 +1,200 @@
+-- What is reported of ln median and of the median. The nearest millionth of a number within 400 units of 10^-9 is within 900 of them,
+-- so within one millionth. The exponential of such a number is within 10 + 402 + 1 parts in 10^9 and one unit of 10^-10 and a little,
+-- of which the last is made up by what 1/500000, 2000 parts, leaves, as the median is above one unit: at ln median -15 it is above
+-- 3000. Assumes nothing.
+use Prim.Native.Nat.{ℕ, _+_, _*_, _^_, _≤_, _<_}
+use mathlib.Core.Path.{_≡_, refl, sym, subst}
+use native.Mathlib.Omega.{arith}
+use native.Mathlib.Nat.{le-refl, le-trans, mul-le-mul-left, mul-le-mul-right, mul-assoc, mul-comm, mul-left-comm, mul-right-comm, mul-add, add-mul, le-of-mul-le-mul-right, add-le-add}
+use lib.Dec.{lit≤}
+use lib.IntN.{ℤ, pos, _*ℤ_}
+use Rattle.exact.specs.Near.{up, dn, NearZ}
+use Rattle.exact.specs.Exact.{E30, expE}
+use Rattle.reckon.specs.Fixed.{E9, K20, K21, nearest, expFixed}
+use Rattle.model.specs.declared.Scenario.{Scenario}
+use Rattle.reckon.proofs.SignedLaws.{nearest-half}
+use Rattle.exact.proofs.ExpExact.{expE-near, expE-mono}
+use Rattle.model.proofs.Rock.{minusFifteen}
+use Rattle.model.specs.Accuracy.{InRange}
+use Rattle.exact.proofs.NearLaws.{near→within}
+use Rattle.model.specs.Equations.{median, lnMedian, most, E24}
+use Rattle.model.specs.Fixed.{lnMedianFixed}
+use Rattle.reckon.proofs.ExpNear.{expFixed-near}
+use Rattle.model.proofs.Median.{lnMedian-size, lnMedian-near, lnMedian-between}
+use Rattle.model.proofs.Wall.{most-by}
+
+-- ---- the nearest millionth
+pub report-near : {K e : ℕ} {s x : ℤ} → e ≤ 500 → NearZ K e s x → NearZ (1000 * K) 1 (nearest s 1000) x
+report-near {K} {e} {s} {x} he n =
+    let q : ℤ = nearest s 1000 in
+    let h = nearest-half s 1000 (lit≤ tt) in
+    record {
+      low = core (up s) (dn s) (up q) (dn q) (up x) (dn x) (omega (arith, h .low)) (n .low);
+      high = turned (core (dn s) (up s) (dn q) (up q) (dn x) (up x) (omega (arith, h .high)) (omega (arith, n .high)));
+    }
+  where
+    core :
+        (u d p q v w : ℕ) → 1000 * p + d ≤ u + 1000 * q + 500 → u * K + w ≤ v + d * K + e * K
+        → p * (1000 * K) + w ≤ v + q * (1000 * K) + 1 * (1000 * K)
+    core u d p q v w h k =
+        omega (
+          arith,
+          mul-le-mul-right K h,
+          add-mul (1000 * p) d K,
+          add-mul (u + 1000 * q) 500 K,
+          add-mul u (1000 * q) K,
+          mul-assoc 1000 p K,
+          mul-assoc 1000 q K,
+          mul-left-comm p 1000 K,
+          mul-left-comm q 1000 K,
+          mul-le-mul-right K he,
+        )
+
+    turned :
+        dn (nearest s 1000) * (1000 * K) + up x ≤ dn x + up (nearest s 1000) * (1000 * K) + 1 * (1000 * K)
+        → up x + dn (nearest s 1000) * (1000 * K) ≤ up (nearest s 1000) * (1000 * K) + dn x + 1 * (1000 * K)
+    turned h = omega arith
+
+-- ---- the median
+-- a chain that keeps the first slack as it is: W makes up for U ρ/N
+chain-fine :
+    (N ρ σ T U W a b c : ℕ) → 0 < N → ρ * σ ≤ N → U * ρ ≤ W * N → a * N ≤ b * (N + ρ) + T → b * N ≤ c * (N + σ) + U
+    → a * N ≤ c * (N + (ρ + σ + 1)) + (T + U + W)
+chain-fine N ρ σ T U W a b c hN small hW h k = le-of-mul-le-mul-right whole hN
+  where
+    one : b * (N + ρ) * N ≤ c * (N + σ) * (N + ρ) + U * (N + ρ)
+    one = omega (arith, mul-right-comm b (N + ρ) N, mul-le-mul-right (N + ρ) k, add-mul (c * (N + σ)) U (N + ρ))
+
+    two : (N + σ) * (N + ρ) ≤ (N + (ρ + σ + 1)) * N
+    two =
+        omega (
+          arith,
+          mul-add (N + σ) N ρ,
+          add-mul N σ ρ,
+          mul-comm N ρ,
+          mul-comm σ ρ,
+          add-mul N σ N,
+          add-mul N (ρ + σ + 1) N,
+          add-mul (ρ + σ) 1 N,
+          add-mul ρ σ N,
+        )
+
+    three : c * (N + σ) * (N + ρ) ≤ c * (N + (ρ + σ + 1)) * N
+    three = omega (arith, mul-assoc c (N + σ) (N + ρ), mul-le-mul-left c two, mul-assoc c (N + (ρ + σ + 1)) N)
+
+    whole : a * N * N ≤ (c * (N + (ρ + σ + 1)) + (T + U + W)) * N
+    whole =
+        omega (
+          arith,
+          one,
+          three,
+          hW,
+          mul-add U N ρ,
+          mul-le-mul-right N h,
+          add-mul (b * (N + ρ)) T N,
+          add-mul (c * (N + (ρ + σ + 1))) (T + U + W) N,
+          add-mul (T + U) W N,
+          add-mul T U N,
+        )
+
+-- 413 parts and a little more than a unit
+pub record Valued (p y : ℕ) : Type 0 where
+  pub low : p * E9 ≤ y * (E9 + 413) + K20 * (E9 + 11)
+  pub high : y * E9 ≤ p * (E9 + 413) + K20 * (E9 + 414)
+
+pub value-near : (s x : ℤ) → up s ≤ 22000000000 → dn s ≤ 22000000000 → NearZ K21 400 s x → Valued (expFixed s * K20) (expE x)
+value-near s x hu hd n =
+    let near = expE-near E9 K21 400 refl (lit≤ tt) (lit≤ tt) (lit≤ tt) (lit≤ tt) (s *ℤ pos K21) x (near→within K21 400 s x n) in
+    let leaf = expFixed-near s hu hd in
+    let p : ℕ = expFixed s * K20 in
+    let m : ℕ = expE (s *ℤ pos K21) in
+    record {
+      low =
+          le-trans
+          (chain-fine E9 10 402 (K20 * (E9 + 10)) (E9 + 402) 11 p m (expE x) (lit≤ tt) (lit≤ tt) (lit≤ tt) (leaf .low) (near .low))
+          (add-le-add (le-refl (expE x * (E9 + 413))) (lit≤ tt));
+      high =
+          le-trans
+          (chain-fine E9 402 10 (E9 + 402) (K20 * (E9 + 10)) (K20 * 403) (expE x) m p (lit≤ tt) (lit≤ tt) (lit≤ tt) (near .high)
+          (leaf .high))
+          (add-le-add (le-refl (p * (E9 + 413))) (lit≤ tt));
+    }
+
+-- the upper bound, in units of which y has at most H
+in-units : (K M T H p y : ℕ) → 0 < K → y ≤ H * K → p * K * E9 ≤ y * M + K * T → p * E9 ≤ H * M + T
+in-units K M T H p y hK h l =
+    le-of-mul-le-mul-right
+    (omega (arith, l, mul-right-comm p K E9, mul-le-mul-right M h, mul-right-comm H K M, add-mul (H * M) T K, mul-comm K T))
+    hK
+
+-- the median at ln median -15 is above 3000 units, and at 13 below 2^53
+least-value : 3000 * K20 ≤ expE minusFifteen
+unfolding expE
+least-value = lit≤ tt
+
+largest-value : expE (pos (13 * E30)) ≤ 4500000000000000 * K20
+unfolding expE
+largest-value = lit≤ tt
+
+module _ (i : ℕ) (x : Scenario) (h : i < 24) (r : InRange x) where
+  valued : Valued (expFixed (lnMedianFixed i x) * K20) (median i x)
+  unfolding median
+  valued =
+      let s = lnMedian-size i x h r in
+      value-near (lnMedianFixed i x) (lnMedian i x) (le-trans (s .1) (lit≤ tt)) (le-trans (s .0) (lit≤ tt)) (lnMedian-near i x h r)
+
+  pub median-least : 3000 * K20 ≤ median i x
+  unfolding median
+  median-least = le-trans least-value (expE-mono minusFifteen (lnMedian i x) (lnMedian-between i x h r .low))
+
+  pub median-largest : median i x ≤ 4500000000000000 * K20
+  unfolding median
+  median-largest = le-trans (expE-mono (lnMedian i x) (pos (13 * E30)) (lnMedian-between i x h r .high)) largest-value
+
+  -- at least one unit
+  pub value-one : 1 ≤ expFixed (lnMedianFixed i x)
+  value-one = go (expFixed (lnMedianFixed i x)) (median i x) median-least (valued .high)
+    where
+      go : (p y : ℕ) → 3000 * K20 ≤ y → y * E9 ≤ p * K20 * (E9 + 413) + K20 * (E9 + 414) → 1 ≤ p
+      go p y k l = omega arith
+
+  -- so taking at least one changes nothing
+  value-is : most 1 (expFixed (lnMedianFixed i x)) ≡ expFixed (lnMedianFixed i x)
+  value-is =
+      most-by (λ (n : ℕ). n ≡ expFixed (lnMedianFixed i x)) 1 (expFixed (lnMedianFixed i x)) (λ k. omega (arith, value-one))
+      (λ k. refl)
+
+  pub ln-reported : NearZ E24 1 (nearest (lnMedianFixed i x) 1000) (lnMedian i x)
+  ln-reported = report-near (lit≤ tt) (lnMedian-near i x h r)
+
+  pub median-one : 1 ≤ most 1 (expFixed (lnMedianFixed i x))
+  median-one = subst (λ (n : ℕ). 1 ≤ n) (sym value-is) value-one
+
+  pub median-low :
+      500000 * (most 1 (expFixed (lnMedianFixed i x)) * K20) ≤ 500000 * median i x + 500000 * K20 + median i x
+  median-low =
+      subst (λ (n : ℕ). 500000 * (n * K20) ≤ 500000 * median i x + 500000 * K20 + median i x) (sym value-is)
+      (go (expFixed (lnMedianFixed i x) * K20) (median i x) median-least (valued .low))
+    where
+      go : (p y : ℕ) → 3000 * K20 ≤ y → p * E9 ≤ y * (E9 + 413) + K20 * (E9 + 11) → 500000 * p ≤ 500000 * y + 500000 * K20 + y
+      go p y k l = omega arith
+
+  pub median-high :
+      500000 * median i x ≤ 500000 * (most 1 (expFixed (lnMedianFixed i x)) * K20) + 500000 * K20 + median i x
+  median-high =
+      subst (λ (n : ℕ). 500000 * median i x ≤ 500000 * (n * K20) + 500000 * K20 + median i x) (sym value-is)
+      (go (expFixed (lnMedianFixed i x) * K20) (median i x) (valued .high))
+    where
+      go : (p y : ℕ) → y * E9 ≤ p * (E9 + 413) + K20 * (E9 + 414) → 500000 * y ≤ 500000 * p + 500000 * K20 + y
+      go p y l = omega arith
+
+  -- and it is below 2^53
+  pub median-fits : most 1 (expFixed (lnMedianFixed i x)) < 2 ^ 53
+  median-fits =
+      subst (λ (n : ℕ). n < 2 ^ 53) (sym value-is)
+      (go (expFixed (lnMedianFixed i x))
+      (in-units K20 (E9 + 413) (E9 + 11) 4500000000000000 (expFixed (lnMedianFixed i x)) (median i x) (lit≤ tt) median-largest
+      (valued .low)))
+    where
+      go : (p : ℕ) → p * E9 ≤ 4500000000000000 * (E9 + 413) + (E9 + 11) → p < 2 ^ 53
+      go p k = omega arith

@@ -1,0 +1,154 @@
+-- What the 64-bit functions reckon: the terms of `Equations` in whole numbers of 10^-9, under the same names. Each function's
+-- contract is equality with its definition here; how near that lies to the exact value is a law of `proofs/`. Products of a
+-- coefficient are rounded toward zero. A request needs the rock PGA, the distance factor and the basin factor once, a logarithm of
+-- the distance for each c6, and a curve and its logarithm for each k1. Definitions only.
+use Prim.Native.Nat.{ℕ, _+_, _-_, _*_, _/_}
+use mathlib.Core.Bool.{true, false}
+use lib.Dec.{ltb, leb, eqb}
+use lib.IntN.{ℤ, pos, negℤ, _+ℤ_, _-ℤ_, _*ℤ_}
+use Rattle.exact.specs.Near.{up}
+use Rattle.exact.specs.Root.{root}
+use Rattle.reckon.specs.Fixed.{E9, mulDiv, nearest, lnFixed, lnQuotient, expFixed}
+use Rattle.request.specs.declared.Style.{Style}
+use Rattle.request.specs.declared.Style.the-variants.{StrikeSlip, Reverse, Normal}
+use Rattle.tables.specs.declared.Coefficients.{Coefficients}
+use Rattle.tables.specs.declared.Deviations.{Deviations}
+use Rattle.tables.specs.Tables.{coefficientsAt, deviationsAt}
+use Rattle.model.specs.declared.Scenario.{Scenario}
+use Rattle.model.specs.declared.Row.{Row}
+use Rattle.model.specs.Equations.{PGA, byMagnitude, slope, linear, least, most, fFltZ, fHngM, fHngZ, fHngDip}
+
+-- ---- the terms of the median
+unfoldable pub fMagFixed : Coefficients → ℕ → ℤ
+fMagFixed c m = byMagnitude c m *ℤ pos 10000
+
+-- ln (RRUP² + c6²)
+unfoldable pub lnDistance : ℕ → ℕ → ℤ
+unfolding lnFixed
+lnDistance c6 rrup = lnFixed ((rrup * rrup + c6 * c6) * 1000)
+
+unfoldable pub fDisFixed : Coefficients → ℕ → ℕ → ℤ
+unfolding mulDiv lnDistance
+fDisFixed c m rrup = mulDiv (slope c m) (lnDistance (c .c6) rrup) (pos 200000)
+
+unfoldable pub fFltFixed : Coefficients → Style → ℕ → ℤ
+fFltFixed c StrikeSlip ztor = pos 0
+fFltFixed c Reverse ztor = c .c7 *ℤ pos (fFltZ ztor) *ℤ pos 1000
+fFltFixed c Normal ztor = c .c8 *ℤ pos 1000000
+
+-- in tenths of a millimetre
+unfoldable pub wallDistanceFixed : ℕ → ℕ → ℕ → ℕ
+unfolding root
+wallDistanceFixed ztor rjb rrup = elim (ltb ztor 1000) [
+  | true ↦ most (rrup * 10000) (root ((rjb * rjb + 1000000) * 100000000))
+  | false ↦ rrup * 10000
+]
+
+unfoldable pub fHngRFixed : ℕ → ℕ → ℕ → ℕ
+unfolding wallDistanceFixed
+fHngRFixed ztor rjb rrup = elim (eqb rjb 0) [
+  | true ↦ E9
+  | false ↦ let d : ℕ = wallDistanceFixed ztor rjb rrup in (d - rjb * 10000) * E9 / d
+]
+
+-- the product of the four factors
+unfoldable pub wallFixed : Scenario → ℕ
+unfolding fHngRFixed
+wallFixed x =
+    fHngRFixed (x .ztor) (x .rjb) (x .rrup) * (fHngM (x .m) * fHngZ (x .ztor) * fHngDip (x .dip)) / 40000000
+
+unfoldable pub fHngFixed : Coefficients → Scenario → ℤ
+unfolding wallFixed mulDiv
+fHngFixed c x = mulDiv (c .c9) (pos (wallFixed x)) (pos 1000)
+
+abbrev pub siteCFixed : ℕ
+siteCFixed = 1_880000_000
+
+unfoldable pub curveFixed : ℕ → ℕ → ℕ
+unfolding lnQuotient mulDiv expFixed
+curveFixed v k1 = 188 * expFixed (mulDiv (pos 118) (lnQuotient v k1) (pos 100)) / 1000
+
+unfoldable pub fSiteFixed : Coefficients → ℕ → ℕ → ℤ
+unfolding mulDiv lnQuotient lnFixed curveFixed
+fSiteFixed c v a = elim (ltb v (c .k1)) [
+  | true ↦ mulDiv (c .c10) (lnQuotient v (c .k1)) (pos 1000)
+      +ℤ mulDiv (c .k2) (lnFixed (a + curveFixed v (c .k1)) -ℤ lnFixed (a + siteCFixed)) (pos 1000)
+  | false ↦ mulDiv (linear c) (lnQuotient (least v 1100) (c .k1)) (pos 100000)
+]
+
+-- e^-0.75 is 0.472366552
+unfoldable pub deepFixed : ℕ → ℕ
+unfolding expFixed
+deepFixed z = 472366552 * (E9 - expFixed (negℤ (pos ((z - 3000) * 250000))) / 10) / E9
+
+unfoldable pub fSedFixed : Coefficients → ℕ → ℤ
+unfolding deepFixed mulDiv
+fSedFixed c z = elim (ltb z 1000) [
+  | true ↦ c .c11 *ℤ (pos z -ℤ pos 1000) *ℤ pos 1000
+  | false ↦ elim (leb z 3000) [ true ↦ pos 0 | false ↦ mulDiv (c .c12 *ℤ c .k3) (pos (deepFixed z)) (pos 1000000) ]
+]
+
+-- ---- the median
+unfoldable pub lnMedianAtFixed : Coefficients → Scenario → ℕ → ℕ → ℤ
+unfolding fMagFixed fDisFixed fFltFixed fHngFixed fSiteFixed fSedFixed
+lnMedianAtFixed c x v a =
+    fMagFixed c (x .m) +ℤ fDisFixed c (x .m) (x .rrup) +ℤ fFltFixed c (x .style) (x .ztor) +ℤ fHngFixed c x
+    +ℤ fSiteFixed c v a +ℤ fSedFixed c (x .z25)
+
+unfoldable pub rockPGAFixed : Scenario → ℕ
+unfolding lnMedianAtFixed expFixed coefficientsAt
+rockPGAFixed x = expFixed (lnMedianAtFixed (coefficientsAt PGA) x 1100 0) / 10
+
+unfoldable pub lnMedianFixed : ℕ → Scenario → ℤ
+unfolding lnMedianAtFixed rockPGAFixed coefficientsAt
+lnMedianFixed i x = lnMedianAtFixed (coefficientsAt i) x (x .vs30) (rockPGAFixed x)
+
+-- ---- the variances
+-- A/(A + c (V/k1)^n) - A/(A + c) is alpha/k2
+unfoldable pub alphaFixed : Coefficients → ℕ → ℕ → ℤ
+unfolding mulDiv curveFixed
+alphaFixed c v a = elim (ltb v (c .k1)) [
+  | true ↦ mulDiv (c .k2) (pos (a * E9 / (a + curveFixed v (c .k1))) -ℤ pos (a * E9 / (a + siteCFixed))) (pos 1000)
+  | false ↦ pos 0
+]
+
+unfoldable pub atBaseFixed : ℕ → ℕ
+unfolding root
+atBaseFixed s = root ((s * s - 300 * 300) * 1000000000000)
+
+-- 2 rho sigma_lnYB
+unfoldable pub crossFixed : Deviations → ℕ
+unfolding atBaseFixed
+crossFixed d = 2 * d .rho * atBaseFixed (d .s) / 1000
+
+-- s² + y (y + 2 rho sigma_lnYB), as sigma_lnYB² + 0.3² is s²; y is alpha sigma_lnAB
+unfoldable pub intraVarianceFixed : Deviations → ℤ → ℤ
+unfolding mulDiv atBaseFixed crossFixed deviationsAt
+intraVarianceFixed d a =
+    let y : ℤ = mulDiv (pos (atBaseFixed (deviationsAt PGA .s))) a (pos E9) in
+    pos (d .s * d .s * 1000) +ℤ mulDiv y (y +ℤ pos (crossFixed d)) (pos E9)
+
+unfoldable pub varianceFixed : ℕ → Scenario → ℕ
+unfolding intraVarianceFixed alphaFixed rockPGAFixed coefficientsAt deviationsAt
+varianceFixed i x = up (intraVarianceFixed (deviationsAt i) (alphaFixed (coefficientsAt i) (x .vs30) (rockPGAFixed x)))
+
+-- ---- what is reported
+-- the root of a variance, to the nearest millionth
+unfoldable pub sigmaOf : ℕ → ℕ
+unfolding root
+sigmaOf v = (root (4000 * v) + 1) / 2
+
+unfoldable pub rowFixed : ℕ → Scenario → Row
+unfolding lnMedianFixed varianceFixed nearest expFixed sigmaOf deviationsAt
+rowFixed i x =
+    let l : ℤ = lnMedianFixed i x in
+    let v : ℕ = varianceFixed i x in
+    let t2 : ℕ = deviationsAt i .t * deviationsAt i .t * 1000 in
+    record {
+      ln = nearest l 1000;
+      median = most 1 (expFixed l);
+      intra = sigmaOf v;
+      inter = deviationsAt i .t * 1000;
+      total = sigmaOf (v + t2);
+      arbitrary = sigmaOf (v + t2 + deviationsAt i .sC * deviationsAt i .sC * 1000);
+    }
