@@ -1,4 +1,4 @@
--- The variance under the root of the intra-event sigma within 288 units of 10^-9, and not below 0.09 but for some units of 10^-30. y
+-- The variance under the root of the intra-event sigma within 287 units of 10^-9, and not below 0.09 but for some units of 10^-30. y
 -- = alpha sigma_lnAB, sigma_lnAB being 0.3722 and held within one unit, is within 0.3722 · 367 + 2.671 and two roundings, 141 units,
 -- and lies between -0.9942 and 0. k = 2 rho sigma_lnYB is within 4 units and at most 0.8, so y + k is within 145 and at most 0.9942
 -- in size, and y (y + k) within 141 · 0.9942 + 145 · 0.9945 and two roundings, 286. The printed form, with each square and product
