@@ -16,7 +16,7 @@ use Rattle.reckon.specs.Fixed.{E9, K21, mulDiv}
 use Rattle.tables.specs.declared.Coefficients.{Coefficients}
 use Rattle.model.proofs.Curve.{Paired, curve-low-fixed, curve-low, curve-near, curve-high}
 use Rattle.model.specs.Fixed.{siteCFixed, alphaFixed, curveFixed}
-use Rattle.model.proofs.Site.{RockNear, soft-rel, hard-rel, paired}
+use Rattle.model.proofs.SiteNear.{RockNear, soft-rel, hard-rel, paired}
 use Rattle.model.specs.Equations.{alpha, siteC, times, curve}
 use Rattle.model.proofs.Between.{Between, scaled-up, scaled-dn, between-wide, share-nothing, between-share, between-turned}
 use Rattle.model.proofs.Quotients.{rest-near, ratio-near}

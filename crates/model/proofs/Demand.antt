@@ -18,7 +18,7 @@ use Rattle.exact.proofs.Signed.{by-sign}
 use Rattle.model.specs.Fixed.{alphaFixed, varianceFixed, rowFixed, rockPGAFixed, intraVarianceFixed, sigmaOf}
 use Rattle.model.proofs.Alpha.{alpha-near, alphaLow, alpha-between}
 use Rattle.model.proofs.Between.{Between}
-use Rattle.model.proofs.Sigma.{joined-near, sigma-near}
+use Rattle.model.proofs.SigmaNear.{joined-near, sigma-near}
 use Rattle.model.proofs.Variance.{square-root, variance-near, variance-high, variance-low}
 use Rattle.model.proofs.Fair.{fair-at, spread-at}
 use Rattle.model.proofs.Median.{rock-is-near}

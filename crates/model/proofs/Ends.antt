@@ -18,12 +18,12 @@ use Rattle.model.specs.declared.Scenario.{Scenario}
 use Rattle.model.proofs.Between.{Between, between-self, between-turned, scaled-up, scaled-dn, mul-up-order, around, mul-nothing, share-nothing, between-share, between-up, between-below, between-above, between-wide, between-ln, between-add}
 use Rattle.model.specs.Equations.{fDis, fFlt, E24, fMag, slope, E27, fFltZ, fSed, deep, times, lnMedianAt, fSite}
 use Rattle.model.proofs.Fair.{Fair}
-use Rattle.model.proofs.Terms.{slope-sign}
+use Rattle.model.proofs.TermsNear.{slope-sign}
 use borrow.Author.Tests.{ltb-true}
 use Rattle.exact.proofs.Signed.{by-sign, sub-is}
 use Rattle.model.proofs.Basin.{deep-top}
 use Rattle.model.specs.Accuracy.{InRange}
-use Rattle.model.proofs.Wall.{fHng-between}
+use Rattle.model.proofs.WallNear.{fHng-between}
 
 -- ---- each term
 fMag-between : (c : Coefficients) (m : ℕ) → Between (fMag c m) (fMag c m) (fMag c m)

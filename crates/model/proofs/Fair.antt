@@ -75,6 +75,8 @@ pub record Fair (c : Coefficients) : Type 0 where
   pub c11-small : natAbs (c .c11) ≤ 300
   pub basin-small : natAbs (c .c12 *ℤ c .k3) ≤ 2800000
   pub linear-small : natAbs (linear c) ≤ 82000
+  pub c12-small : natAbs (c .c12) ≤ 1000
+  pub k3-small : natAbs (c .k3) ≤ 2800
 
 fairFacts : Coefficients → List (ℕ × ℕ)
 fairFacts c =
@@ -85,7 +87,8 @@ fairFacts c =
     ∷ (restErr c + softErr c, 400) ∷ (restErr c + linearErr c, 400)
     ∷ (100 * natAbs (c .c0) + natAbs (c .c1) * 850 + natAbs (c .c2) * 300 + natAbs (c .c3) * 200, 2800000) ∷ (natAbs (c .c7), 300)
     ∷ (natAbs (c .c8), 200) ∷ (natAbs (c .c9), 500) ∷ (natAbs (c .c10), 2600) ∷ (natAbs (c .c11), 300)
-    ∷ (natAbs (c .c12 *ℤ c .k3), 2800000) ∷ (natAbs (linear c), 82000) ∷ []
+    ∷ (natAbs (c .c12 *ℤ c .k3), 2800000) ∷ (natAbs (linear c), 82000)
+    ∷ (natAbs (c .c12), 1000) ∷ (natAbs (c .k3), 2800) ∷ []
 
 fair : (c : Coefficients) → T (leAll (fairFacts c)) → Fair c
 unfolding fairFacts
@@ -96,6 +99,7 @@ fair c t =
     let h12 = h8 .1 .1 .1 .1 in
     let h16 = h12 .1 .1 .1 .1 in
     let h20 = h16 .1 .1 .1 .1 in
+    let h24 = h20 .1 .1 .1 .1 in
     record {
       c4-sign = h .0;
       c5-sign = h .1 .0;
@@ -121,8 +125,10 @@ fair c t =
       c9-small = h20 .1 .0;
       c10-small = h20 .1 .1 .0;
       c11-small = h20 .1 .1 .1 .0;
-      basin-small = h20 .1 .1 .1 .1 .0;
-      linear-small = h20 .1 .1 .1 .1 .1 .0;
+      basin-small = h24 .0;
+      linear-small = h24 .1 .0;
+      c12-small = h24 .1 .1 .0;
+      k3-small = h24 .1 .1 .1 .0;
     }
 
 fairAt : ℕ → Bool

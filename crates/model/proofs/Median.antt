@@ -24,7 +24,7 @@ use Rattle.model.proofs.Fair.{leAll, LeAll, Fair, le-all, fair-at}
 use Rattle.model.proofs.Between.{Between, share-nothing, between-share, between-add, between-turned, between-sub, between-ln, between-wide, near-between}
 use Rattle.model.proofs.Rock.{order, minusFifteen, rock-near, rock-top-fixed, rock-top}
 use borrow.Author.Tests.{lt-ltb, le-ltb, ltb-true, ltb-false}
-use Rattle.model.proofs.Site.{least-by, RockNear, lnMedianAt-near, paired}
+use Rattle.model.proofs.SiteNear.{least-by, RockNear, lnMedianAt-near, paired}
 use Rattle.model.proofs.Ends.{lowEnd, highEnd, farEnd, distance-between, sum-between}
 use Rattle.exact.proofs.Signed.{sub-is}
 use lib.Ieee.Nearest.{div-mono}

@@ -21,7 +21,7 @@ use Rattle.model.specs.Equations.{median, lnMedian, most, E24}
 use Rattle.model.specs.Fixed.{lnMedianFixed}
 use Rattle.reckon.proofs.ExpNear.{expFixed-near}
 use Rattle.model.proofs.Median.{lnMedian-size, lnMedian-near, lnMedian-between}
-use Rattle.model.proofs.Wall.{most-by}
+use Rattle.model.proofs.WallNear.{most-by}
 
 -- ---- the nearest millionth
 pub report-near : {K e : ℕ} {s x : ℤ} → e ≤ 500 → NearZ K e s x → NearZ (1000 * K) 1 (nearest s 1000) x

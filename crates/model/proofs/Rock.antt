@@ -28,7 +28,7 @@ use Rattle.exact.proofs.ExpExact.{expE-mono}
 use Rattle.model.proofs.NearSums.{near-share}
 use Rattle.reckon.proofs.LnNear.{lnQuotient-near}
 use Rattle.exact.proofs.NearLaws.{near-wide}
-use Rattle.model.proofs.Terms.{terms-near}
+use Rattle.model.proofs.TermsNear.{terms-near}
 
 pga-fair : Fair (coefficientsAt PGA)
 pga-fair = fair-at PGA (lit≤ tt)

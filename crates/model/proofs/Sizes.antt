@@ -20,29 +20,30 @@ use Rattle.exact.proofs.Signed.{by-sign, abs-parts, mul-abs-le, sub-is, add-abs
 use Rattle.model.proofs.Fair.{Fair}
 use Rattle.model.specs.Fixed.{fMagFixed, lnDistance, fDisFixed, fFltFixed, wallDistanceFixed, fHngRFixed, wallFixed, fHngFixed, deepFixed, fSedFixed, fSiteFixed, sigmaOf, curveFixed, alphaFixed, varianceFixed, siteCFixed, lnMedianFixed, atBaseFixed}
 use Rattle.model.specs.Equations.{byMagnitude, slope, fFltZ, most, linear, least, PGA}
-use Rattle.model.proofs.Between.{near-between}
+use Rattle.model.proofs.Between.{near-between, between-ln}
 use Rattle.exact.proofs.Root.{side-lt, root-is}
-use Rattle.model.proofs.Wall.{others-le, most-by}
+use Rattle.model.proofs.WallNear.{others-le, most-by}
 use Rattle.model.proofs.Ends.{distance-between, fFltZ-le}
-use Rattle.model.proofs.Terms.{slope-size, lnDistance-near}
+use Rattle.model.proofs.TermsNear.{slope-size, lnDistance-near}
 use borrow.Author.Tests.{ltb-true, lt-ltb, le-ltb, ltb-false}
 use Rattle.model.proofs.Median.{ln-sixteen, difference-between, lnMedian-size}
 use Rattle.model.proofs.Curve.{Paired, quotient-size}
-use Rattle.model.proofs.Site.{RockNear, logarithms-near, paired, capped}
+use Rattle.model.proofs.SiteNear.{RockNear, logarithms-near, paired, capped}
 use Rattle.model.specs.Accuracy.{InRange}
 use Rattle.model.proofs.Alpha.{alpha-between, alpha-near}
-use Rattle.exact.specs.Exact.{E30}
+use Rattle.exact.specs.Exact.{E30, lnE}
+use Rattle.reckon.proofs.LnNear.{lnFixed-near}
 use Rattle.model.proofs.Demand.{intra-variance, exactVariance, variance-top}
 use Rattle.model.proofs.Quotients.{pos-low}
 use Rattle.tables.specs.Tables.{deviationsAt}
 use Rattle.model.proofs.Variance.{rock-sigma-le}
 
 -- a share of a number, by their sizes
-share-size : (c a : ℤ) (D A B C : ℕ) → natAbs c ≤ A → natAbs a ≤ B → A * B ≤ D * C → natAbs (mulDiv c a (pos D)) ≤ C
+pub share-size : (c a : ℤ) (D A B C : ℕ) → natAbs c ≤ A → natAbs a ≤ B → A * B ≤ D * C → natAbs (mulDiv c a (pos D)) ≤ C
 share-size c a D A B C h k l = rw (mulDiv-abs c a (pos D)) (div-le-of-le-mul D (le-trans (mul-le-mul h k) l))
 
 -- a number whose parts are both at most n
-by-parts : (z : ℤ) (n : ℕ) → dn z ≤ n → up z ≤ n → natAbs z ≤ n
+pub by-parts : (z : ℤ) (n : ℕ) → dn z ≤ n → up z ≤ n → natAbs z ≤ n
 by-parts z n l h = by-sign z (λ k. omega (arith, abs-parts z)) (λ k. omega (arith, abs-parts z))
 
 -- ---- the terms
@@ -132,6 +133,13 @@ pub deep-size : (z : ℕ) → deepFixed z ≤ 472366552
 unfolding deepFixed
 deep-size z = div-le-of-le-mul E9 (le-trans (mul-le-mul-left 472366552 (sub-le E9 _)) (lit≤ tt))
 
+-- a depth less a kilometre
+pub shallow-size : (z : ℕ) → z ≤ 10000 → natAbs (pos z -ℤ pos 1000) ≤ 10000
+shallow-size z h =
+    by-sign (pos z -ℤ pos 1000)
+    (λ k. omega (arith, k, abs-parts (pos z -ℤ pos 1000), sub-is (pos z) (pos 1000)))
+    (λ k. omega (arith, k, abs-parts (pos z -ℤ pos 1000), sub-is (pos z) (pos 1000)))
+
 pub fSed-size : (c : Coefficients) (z : ℕ) → Fair c → natAbs (fSedFixed c z) ≤ 1400000000
 unfolding fSedFixed
 fSed-size c z f = first (ltb z 1000) refl
@@ -167,6 +175,22 @@ fSed-size c z f = first (ltb z 1000) refl
         (lit≤ tt)
     first false e = second (leb z 3000)
 
+-- a logarithm of a sum of A1100 and c or its curve: from ln (1/8) to ln 4
+pub log-size : (n : ℕ) → 125000000 ≤ n → n ≤ 4000000000 → natAbs (lnFixed n) ≤ 2080000007
+unfolding lnE
+log-size n l h =
+    let s =
+    near-between 2080000000 1400000000 (lit≤ tt) low-end high-end
+    (between-ln (125000000 * K21) (n * K21) (4000000000 * K21) (lit≤ tt) (mul-le-mul-right K21 l) (mul-le-mul-right K21 h))
+    (lnFixed-near n (omega arith) (omega arith)) in
+    by-parts (lnFixed n) 2080000007 (s .0) (le-trans (s .1) (lit≤ tt))
+  where
+    low-end : dn (lnE (125000000 * K21)) ≤ 2080000000 * K21
+    low-end = lit≤ tt
+
+    high-end : up (lnE (4000000000 * K21)) ≤ 1400000000 * K21
+    high-end = lit≤ tt
+
 -- ---- the site term: below k1 the difference of the two logarithms is at most 2.93 and 123 units
 pub logarithms-size :
     (v k1 a b : ℕ) → Paired v k1 → v < k1 → RockNear a b
@@ -176,6 +200,15 @@ logarithms-size v k1 a b p h r =
     near-between 2930000000 0 (lit≤ tt) (lit≤ tt) (lit≤ tt) (difference-between v k1 b p h (r .exact-top))
     (logarithms-near v k1 a b p h r) in
     by-parts (lnFixed (a + curveFixed v k1) -ℤ lnFixed (a + siteCFixed)) 2930000123 (s .0) (le-trans (s .1) (lit≤ tt))
+
+pub linear-site-size :
+    (c : Coefficients) (v a : ℕ) → Fair c → 150 ≤ v → v ≤ 1500 → c .k1 ≤ v → natAbs (fSiteFixed c v a) ≤ 13100000000
+unfolding fSiteFixed
+linear-site-size c v a f l h k =
+    rw (fSiteFixed, le-ltb v (c .k1) k)
+    (share-size (linear c) (lnQuotient (least v 1100) (c .k1)) 100000 82000 2000000005 13100000000 (f .linear-small)
+    (quotient-size (least v 1100) (c .k1) (capped c v f l h))
+    (lit≤ tt))
 
 pub fSite-size :
     (c : Coefficients) (v a b : ℕ) → Fair c → 150 ≤ v → v ≤ 1500 → RockNear a b → natAbs (fSiteFixed c v a) ≤ 13100000000
@@ -200,16 +233,9 @@ fSite-size c v a b f l h r = go (ltb v (c .k1)) refl
         k2-small : natAbs (c .k2) ≤ 2670
         k2-small = omega (arith, abs-parts (c .k2), f .k2-sign, f .k2-small)
 
-    hard : c .k1 ≤ v → natAbs (fSiteFixed c v a) ≤ 13100000000
-    hard k =
-        rw (fSiteFixed, le-ltb v (c .k1) k)
-        (share-size (linear c) (lnQuotient (least v 1100) (c .k1)) 100000 82000 2000000005 13100000000 (f .linear-small)
-        (quotient-size (least v 1100) (c .k1) (capped c v f l h))
-        (lit≤ tt))
-
     go : (t : Bool) → ltb v (c .k1) ≡ t → natAbs (fSiteFixed c v a) ≤ 13100000000
     go true e = soft (ltb-true v (c .k1) e)
-    go false e = hard (ltb-false v (c .k1) e)
+    go false e = linear-site-size c v a f l h (ltb-false v (c .k1) e)
 
 -- ---- alpha
 pub alpha-size :

@@ -27,7 +27,7 @@ use Rattle.exact.proofs.Signed.{abs-parts, by-sign, add-parts, *ℤ-+ℤ, mul-u
 use Rattle.model.proofs.NearSums.{near-back, shareErr, near-share, near-prod, near-add, near-exact}
 use Rattle.reckon.proofs.SignedLaws.{mulDiv-whole}
 use Rattle.exact.proofs.Rounding.{mulE-whole, floor-whole}
-use Rattle.model.proofs.Wall.{root-cut, squares}
+use Rattle.model.proofs.WallNear.{root-cut, squares}
 use Rattle.exact.proofs.Root.{root-is, square-one, side-lt, square-two}
 use Rattle.model.proofs.Quotients.{near-pos, pos-high}
 use Rattle.exact.proofs.Quotients.{div-le}

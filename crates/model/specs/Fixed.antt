@@ -64,9 +64,13 @@ fHngFixed c x = mulDiv (c .c9) (pos (wallFixed x)) (pos 1000)
 abbrev pub siteCFixed : ℕ
 siteCFixed = 1_880000_000
 
+-- c (V/k1)^n, from ln(V/k1)
+abbrev pub curveOf : ℤ → ℕ
+curveOf l = 188 * expFixed (mulDiv (pos 118) l (pos 100)) / 1000
+
 unfoldable pub curveFixed : ℕ → ℕ → ℕ
 unfolding lnQuotient mulDiv expFixed
-curveFixed v k1 = 188 * expFixed (mulDiv (pos 118) (lnQuotient v k1) (pos 100)) / 1000
+curveFixed v k1 = curveOf (lnQuotient v k1)
 
 unfoldable pub fSiteFixed : Coefficients → ℕ → ℕ → ℤ
 unfolding mulDiv lnQuotient lnFixed curveFixed
@@ -89,11 +93,15 @@ fSedFixed c z = elim (ltb z 1000) [
 ]
 
 -- ---- the median
+-- ln Y with a site term
+abbrev pub lnSum : Coefficients → Scenario → ℤ → ℤ
+lnSum c x site =
+    fMagFixed c (x .m) +ℤ fDisFixed c (x .m) (x .rrup) +ℤ fFltFixed c (x .style) (x .ztor) +ℤ fHngFixed c x +ℤ site
+    +ℤ fSedFixed c (x .z25)
+
 unfoldable pub lnMedianAtFixed : Coefficients → Scenario → ℕ → ℕ → ℤ
 unfolding fMagFixed fDisFixed fFltFixed fHngFixed fSiteFixed fSedFixed
-lnMedianAtFixed c x v a =
-    fMagFixed c (x .m) +ℤ fDisFixed c (x .m) (x .rrup) +ℤ fFltFixed c (x .style) (x .ztor) +ℤ fHngFixed c x
-    +ℤ fSiteFixed c v a +ℤ fSedFixed c (x .z25)
+lnMedianAtFixed c x v a = lnSum c x (fSiteFixed c v a)
 
 unfoldable pub rockPGAFixed : Scenario → ℕ
 unfolding lnMedianAtFixed expFixed coefficientsAt
@@ -104,11 +112,15 @@ unfolding lnMedianAtFixed rockPGAFixed coefficientsAt
 lnMedianFixed i x = lnMedianAtFixed (coefficientsAt i) x (x .vs30) (rockPGAFixed x)
 
 -- ---- the variances
+-- a/(a + b)
+abbrev pub shareFixed : ℕ → ℕ → ℕ
+shareFixed a b = a * E9 / (a + b)
+
 -- A/(A + c (V/k1)^n) - A/(A + c) is alpha/k2
 unfoldable pub alphaFixed : Coefficients → ℕ → ℕ → ℤ
 unfolding mulDiv curveFixed
 alphaFixed c v a = elim (ltb v (c .k1)) [
-  | true ↦ mulDiv (c .k2) (pos (a * E9 / (a + curveFixed v (c .k1))) -ℤ pos (a * E9 / (a + siteCFixed))) (pos 1000)
+  | true ↦ mulDiv (c .k2) (pos (shareFixed a (curveFixed v (c .k1))) -ℤ pos (shareFixed a siteCFixed)) (pos 1000)
   | false ↦ pos 0
 ]
 
@@ -137,6 +149,10 @@ varianceFixed i x = up (intraVarianceFixed (deviationsAt i) (alphaFixed (coeffic
 unfoldable pub sigmaOf : ℕ → ℕ
 unfolding root
 sigmaOf v = (root (4000 * v) + 1) / 2
+
+-- a row of zeros
+abbrev pub noRow : Row
+noRow = record { ln = pos 0; median = 0; intra = 0; inter = 0; total = 0; arbitrary = 0 }
 
 unfoldable pub rowFixed : ℕ → Scenario → Row
 unfolding lnMedianFixed varianceFixed nearest expFixed sigmaOf deviationsAt

@@ -22,7 +22,7 @@ use Rattle.model.proofs.NearSums.{near-exact, shareErr, near-share, nea
 use Rattle.exact.proofs.Signed.{by-sign, abs-parts, add-parts, mul-up, mul-dn}
 use Rattle.model.specs.Accuracy.{InRange}
 use Rattle.reckon.proofs.LnNear.{lnFixed-near}
-use Rattle.model.proofs.Wall.{fHng-near}
+use Rattle.model.proofs.WallNear.{fHng-near}
 use Rattle.model.proofs.Basin.{fSed-near}
 
 fMag-near : (c : Coefficients) (m : ℕ) → NearZ K21 0 (fMagFixed c m) (fMag c m)

@@ -25,7 +25,7 @@ use Rattle.model.specs.Accuracy.{InRange}
 use Rattle.model.proofs.Through.{ln-through}
 use Rattle.model.proofs.NearSums.{near-add, near-share, near-sub}
 use Rattle.exact.proofs.NearLaws.{near-wide}
-use Rattle.model.proofs.Terms.{terms-near}
+use Rattle.model.proofs.TermsNear.{terms-near}
 
 -- what is asked of A1100: how near, and how large
 pub record RockNear (a b : ℕ) : Type 0 where

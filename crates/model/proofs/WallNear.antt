@@ -275,7 +275,7 @@ fHngR-near z j r hj h = at-zero (eqb j 0)
     at-zero false = at-depth (ltb z 1000) refl
 
 -- ---- the other three factors make a number of 40000000ths, at most one
-M-le : (m : ℕ) → fHngM m ≤ 100
+pub M-le : (m : ℕ) → fHngM m ≤ 100
 M-le m = low (leb m 600) refl
   where
     middle : (t : Bool) → ltb m 650 ≡ t → elim t [ true ↦ 2 * (m - 600) | false ↦ 100 ] ≤ 100
