@@ -99,8 +99,8 @@ pub fn row_at(i: usize, x: Scenario) -> Row
     requires { ⌜ (i < 24) × InRange x ⌝ }
     ensures { λ r. ⌜ r ≡ rowFixed i x ⌝ }
 {
-    let pga = coefficients_at(PGA);
-    let s = shared_of(pga, x, path_of(pga, x));
+    let rock = coefficients_at(PGA);
+    let s = shared_of(rock, x, path_of(rock, x));
     let c = coefficients_at(i);
     row_from(i, c, x, s, path_of(c, x), soil_of(c, x, s))
 }

@@ -2,7 +2,7 @@
 // PGA with what is made of it.
 use crate::Scenario;
 use crate::sigma::at_base;
-use crate::site::f_site_rock;
+use crate::site::f_site_linear;
 use crate::terms::Path;
 use crate::terms::ln_sum;
 use crate::wall::deep_of;
@@ -50,7 +50,7 @@ fn rock_pga(c: Coefficients, x: Scenario, wall: u64, deep: u64, path: Path) -> u
     requires { ⌜ (c ≡ coefficientsAt PGA) × InRange x × (wall ≡ wallFixed x) × (deep ≡ deepFixed (x .z25)) × (path ≡ pathOf (c .c6) x) ⌝ }
     ensures { λ r. ⌜ r ≡ rockPGAFixed x ⌝ }
 {
-    exp_fixed(ln_sum(c, x, wall, deep, path, f_site_rock(c))) / 10
+    exp_fixed(ln_sum(c, x, wall, deep, path, f_site_linear(c, 1_100))) / 10
 }
 
 // All of them, from PGA's coefficients and path.

@@ -73,12 +73,12 @@ fn linear_of(c: Coefficients) -> i64
     100 * c.c10 + 118 * c.k2
 }
 
-// The term at Vs30 = 1100, above every k1.
-pub fn f_site_rock(c: Coefficients) -> i64
-    requires { ⌜ OfTable2 c ⌝ }
-    ensures { λ r. ⌜ r ≡ fSiteFixed c 1100 0 ⌝ }
+// The term at a Vs30 from k1 up, which reads no A1100.
+pub fn f_site_linear(c: Coefficients, v: u64) -> i64
+    requires { ⌜ OfTable2 c × (c .k1 ≤ v) × (v ≤ 1500) ⌝ }
+    ensures { λ r. ⌜ r ≡ fSiteFixed c v 0 ⌝ }
 {
-    mul_div(linear_of(c), ln_quotient(1_100, c.k1), 100_000)
+    mul_div(linear_of(c), ln_quotient(at_most_1100(v), c.k1), 100_000)
 }
 
 // The term at the site (11).

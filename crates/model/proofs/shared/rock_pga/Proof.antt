@@ -32,13 +32,15 @@ site-small c =
 site-fits : (c : tie.Start) → SFits w64 (fSiteFixed (c .args .c) 1100 0)
 site-fits c = sfits-abs (fSiteFixed (c .args .c) 1100 0) (omega (arith, site-small c))
 
-f-site-rock-requires : tie.Need-f-site-rock-requires
-f-site-rock-requires c κs = pga-row (c .args .c) (c .pre .0)
+f-site-linear-requires : tie.Need-f-site-linear-requires
+f-site-linear-requires c κs =
+    let o = pga-row (c .args .c) (c .pre .0) in
+    (o, le-trans (fair-of (c .args .c) o .k1-high) (lit≤ tt), lit≤ tt)
 
 ln-sum-requires : tie.Need-ln-sum-requires
 ln-sum-requires c κs =
     let s = c .before in
-    simp (c .f-site-rock .ensures, toZ-ofZ (site-fits s))
+    simp (c .f-site-linear .ensures, toZ-ofZ (site-fits s))
     (pga-row (s .args .c) (s .pre .0), s .pre .1, s .pre .2, s .pre .3, s .pre .4, site-small s)
 
 -- the sum is the definition's
@@ -47,7 +49,7 @@ sum-is :
 unfolding lnMedianAtFixed
 sum-is c =
     let s = c .before .before in
-    (simp (c .before .f-site-rock .ensures, toZ-ofZ (site-fits s)) at (c .ln-sum .ensures))
+    (simp (c .before .f-site-linear .ensures, toZ-ofZ (site-fits s)) at (c .ln-sum .ensures))
     ∙ ap (λ (r : Coefficients). lnSum r (s .args .x) (fSiteFixed r 1100 0)) (s .pre .0)
 
 sum-fits : (x : Scenario) → InRange x → SFits w64 (lnMedianAtFixed (coefficientsAt PGA) x 1100 0)
@@ -66,4 +68,4 @@ returns c =
     simp (c .exp-fixed .ensures, sum-is (c .before), toZ-ofZ (sum-fits (s .args .x) (s .pre .1)))
 
 pub rock-pga-spec : {M : Type 1} → statement M
-rock-pga-spec = tie.close (tie.spec f-site-rock-requires ln-sum-requires exp-fixed-requires returns)
+rock-pga-spec = tie.close (tie.spec f-site-linear-requires ln-sum-requires exp-fixed-requires returns)
