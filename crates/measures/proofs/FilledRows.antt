@@ -1,0 +1,52 @@
+-- An array of rows that is filled from its start, PGA's row known from the first: a row set, and PGA's passed over. Assumes nothing.
+use Prim.Native.Nat.{ℕ, _+_, _≤_, _<_}
+use mathlib.Core.Path.{_≡_, refl, sym, ap, subst, _∙_}
+use mathlib.Core.List.{List}
+use native.Mathlib.Omega.{arith}
+use lib.ListN.{length, getD, set, length-set}
+use lib.Seq.{getD-set-same, getD-set-other}
+use borrow.Author.Count.{below-more}
+use Rattle.model.specs.declared.Scenario.{Scenario}
+use Rattle.model.specs.declared.Row.{Row}
+use Rattle.measures.specs.declared.site.Soil.{Soil}
+use Rattle.measures.specs.declared.terms.Path.{Path}
+use Rattle.model.specs.Equations.{PGA}
+use Rattle.model.specs.Fixed.{noRow, rowFixed}
+use Rattle.measures.specs.Sharing.{pathOf, soilOf}
+use Rattle.measures.proofs.SoilLaws.{soil-k1}
+
+pub record Filled (x : Scenario) (rows : List Row) (k : ℕ) : Type 0 where
+  pub whole : length rows ≡ 24
+  pub pga : getD rows PGA noRow ≡ rowFixed PGA x
+  pub below : (j : ℕ) → j < k → getD rows j noRow ≡ rowFixed j x
+
+pub set-filled :
+    (x : Scenario) (rows : List Row) (k : ℕ) (v : Row) → k < 24 → (k ≡ PGA → ⊥) → v ≡ rowFixed k x → Filled x rows k
+    → Filled x (set rows k v) (k + 1)
+set-filled x rows k v h other e f =
+    record {
+      whole = length-set rows k v ∙ f .whole;
+      pga = getD-set-other rows k PGA v noRow (λ p. other (sym p)) ∙ f .pga;
+      below =
+          below-more (λ (j : ℕ). getD (set rows k v) j noRow ≡ rowFixed j x) k
+          (λ j l. getD-set-other rows k j v noRow (λ p. absurd (omega (arith, p, l))) ∙ f .below j l)
+          (getD-set-same rows k v noRow (omega (arith, h, f .whole)) ∙ e);
+    }
+
+pub pass-filled : (x : Scenario) (rows : List Row) (k : ℕ) → k ≡ PGA → Filled x rows k → Filled x rows (k + 1)
+pass-filled x rows k e f =
+    record {
+      whole = f .whole;
+      pga = f .pga;
+      below =
+          below-more (λ (j : ℕ). getD rows j noRow ≡ rowFixed j x) k (f .below)
+          (subst (λ (j : ℕ). getD rows j noRow ≡ rowFixed j x) (sym e) (f .pga));
+    }
+
+-- what was worked out for a c6 or a k1 says for which
+pub path-again : (x : Scenario) (k : ℕ) (p : Path) → p ≡ pathOf k x → p ≡ pathOf (p .c6) x
+unfolding pathOf
+path-again x k p e = e ∙ ap (λ (j : ℕ). pathOf j x) (sym (ap (λ (q : Path). q .c6) e))
+
+pub soil-again : (x : Scenario) (k : ℕ) (s : Soil) → s ≡ soilOf k x → s ≡ soilOf (s .k1) x
+soil-again x k s e = e ∙ ap (λ (j : ℕ). soilOf j x) (sym (ap (λ (q : Soil). q .k1) e ∙ soil-k1 k x))

@@ -1,0 +1,3 @@
+pub mod OfTables
+pub mod SoilLaws
+pub mod FilledRows

@@ -1,0 +1,235 @@
+-- Each field by its own function, at figures that are small by the laws of `Sizes`. Assumes nothing.
+use borrow.Author.Needs.{needs}
+use Prim.Native.Nat.{ℕ, _+_, _*_, _^_, _≤_, _<_}
+use mathlib.Core.Path.{_≡_, sym, ap, _∙_}
+use native.Mathlib.Omega.{arith}
+use native.Mathlib.Nat.{le-trans, mul-le-mul}
+use lib.Dec.{lit≤}
+use lib.IntN.{ℤ, pos, natAbs}
+use mir.Syntax.{w64}
+use mir.Val.{Fits, SFits}
+use mir.Facts.{toZ-ofZ}
+use Rattle.exact.specs.Near.{up, dn}
+use Rattle.exact.proofs.Signed.{sfits, sfits-abs}
+use Rattle.reckon.specs.Fixed.{nearest, expFixed}
+use Rattle.tables.specs.declared.Coefficients.{Coefficients}
+use Rattle.tables.specs.declared.Deviations.{Deviations}
+use Rattle.tables.specs.Tables.{coefficientsAt, deviationsAt}
+use Rattle.model.specs.declared.Scenario.{Scenario}
+use Rattle.measures.specs.declared.shared.Shared.{Shared}
+use Rattle.model.specs.Accuracy.{InRange}
+use Rattle.model.specs.Equations.{PGA}
+use Rattle.model.specs.Fixed.{alphaFixed, atBaseFixed, intraVarianceFixed, lnMedianFixed, rockPGAFixed, rowFixed, varianceFixed}
+use Rattle.measures.specs.Sharing.{OfTable3, sharedOf}
+use Rattle.model.proofs.Fair.{fair-at, spread-at}
+use Rattle.model.proofs.Median.{rock-is-near, lnMedian-size}
+use Rattle.measures.proofs.OfTables.{of-row}
+use Rattle.model.proofs.Sizes.{alpha-size, by-parts, ln-size, variance-size}
+use Rattle.measures.proofs.row_from.Statement.{statement}
+use Rattle.measures.proofs.row_from.Tie as tie
+
+record Steps (i : ℕ) (x : Scenario) : Type 0 where
+  alpha-small : natAbs (alphaFixed (coefficientsAt i) (x .vs30) (rockPGAFixed x)) ≤ 2671000367
+  alpha-fits : SFits w64 (alphaFixed (coefficientsAt i) (x .vs30) (rockPGAFixed x))
+  t2 : deviationsAt i .t * deviationsAt i .t ≤ 250000
+  sC2 : deviationsAt i .sC * deviationsAt i .sC ≤ 90000
+  t-high : deviationsAt i .t ≤ 500
+  variance-high : varianceFixed i x ≤ 2000000287
+  ln-low : dn (lnMedianFixed i x) ≤ 15000000400
+  ln-high : up (lnMedianFixed i x) ≤ 13000000400
+  ln-fits : SFits w64 (lnMedianFixed i x)
+  ln-abs : natAbs (lnMedianFixed i x) ≤ 15000000400
+  near-fits : SFits w64 (nearest (lnMedianFixed i x) 1000)
+
+steps : (i : ℕ) (x : Scenario) → i < 24 → InRange x → Steps i x
+steps i x h r =
+    let d = spread-at i h in
+    let a = alpha-size (coefficientsAt i) (x .vs30) _ _ (fair-at i h) (r .vs30-low) (r .vs30-high) (rock-is-near x r) in
+    let z = lnMedian-size i x h r in
+    record {
+      alpha-small = a;
+      alpha-fits = sfits-abs _ (omega (arith, a));
+      t2 = mul-le-mul (d .t-high) (d .t-high);
+      sC2 = mul-le-mul (d .sC-high) (d .sC-high);
+      t-high = d .t-high;
+      variance-high = variance-size i x h r .1;
+      ln-low = z .0;
+      ln-high = z .1;
+      ln-fits = sfits _ (omega (arith, z .1)) (omega (arith, z .0));
+      ln-abs = by-parts (lnMedianFixed i x) 15000000400 (z .0) (le-trans (z .1) (lit≤ tt));
+      near-fits = sfits-abs _ (omega (arith, ln-size i x h r));
+    }
+
+at : (c : tie.Start) → Steps (c .args .i) (c .args .x)
+at c = steps (c .args .i) (c .args .x) (c .pre .0) (c .pre .2)
+
+sigma-is : (c : tie.Start) → c .args .s .sigma ≡ atBaseFixed (deviationsAt PGA .s)
+unfolding sharedOf
+sigma-is c = ap (λ (s : Shared). s .sigma) (c .pre .3)
+
+ln-median-requires : tie.Need-ln-median-requires
+ln-median-requires c κs = search needs
+
+deviations-at-requires : tie.Need-deviations-at-requires
+deviations-at-requires c κs = search needs
+
+alpha-of-requires : tie.Need-alpha-of-requires
+alpha-of-requires c κs =
+    let s = c .before .before in
+    (of-row (s .args .i) (s .args .c) (s .pre .0) (s .pre .1), s .pre .2, s .pre .5)
+
+-- alpha, in the words of the definition of the variance
+alpha-is :
+    (c : tie.After-alpha-of)
+    → c .alpha-of .result
+    ≡ alphaFixed (coefficientsAt (c .before .before .before .args .i)) (c .before .before .before .args .x .vs30)
+    (rockPGAFixed (c .before .before .before .args .x))
+alpha-is c =
+    let s = c .before .before .before in
+    c .alpha-of .ensures ∙ ap (λ (r : Coefficients). alphaFixed r (s .args .x .vs30) (rockPGAFixed (s .args .x))) (s .pre .1)
+
+intra-variance-requires : tie.Need-intra-variance-requires
+intra-variance-requires c κs =
+    let s = c .before .before .before in
+    let f = at s in
+    simp (alpha-is c, toZ-ofZ (f .alpha-fits))
+    (record { i = s .args .i; below = s .pre .0; is = c .before .deviations-at .ensures }, f .alpha-small, sigma-is s)
+
+intra-is :
+    (c : tie.After-intra-variance)
+    → c .intra-variance .result ≡ varianceFixed (c .before .before .before .before .args .i) (c .before .before .before .before .args .x)
+unfolding varianceFixed
+intra-is c =
+    let a = c .before in
+    let s = a .before .before .before in
+    let f = at s in
+    (simp (alpha-is a, toZ-ofZ (f .alpha-fits)) at (c .intra-variance .ensures))
+    ∙ ap
+    (λ (d : Deviations). up (intraVarianceFixed d (alphaFixed (coefficientsAt (s .args .i)) (s .args .x .vs30) (rockPGAFixed (s .args .x)))))
+    (a .before .deviations-at .ensures)
+
+mul-total : tie.Need-mul-total
+mul-total c =
+    let a = c .before .before in
+    let f = at (a .before .before .before) in
+    rw (a .before .deviations-at .ensures) (record { fits = omega (arith, f .t2) })
+
+mul-total-2 : tie.Need-mul-total-2
+mul-total-2 c =
+    let a = c .before .before in
+    let f = at (a .before .before .before) in
+    rw (a .before .deviations-at .ensures) (record { fits = omega (arith, f .t2) })
+
+add-total : tie.Need-add-total
+add-total c =
+    let a = c .before .before in
+    let f = at (a .before .before .before) in
+    rw (intra-is (c .before), a .before .deviations-at .ensures) (record { fits = omega (arith, f .t2, f .variance-high) })
+
+mul-arbitrary : tie.Need-mul-arbitrary
+mul-arbitrary c =
+    let a = c .before .before .before in
+    let f = at (a .before .before .before) in
+    rw (a .before .deviations-at .ensures) (record { fits = omega (arith, f .sC2) })
+
+mul-arbitrary-2 : tie.Need-mul-arbitrary-2
+mul-arbitrary-2 c =
+    let a = c .before .before .before in
+    let f = at (a .before .before .before) in
+    rw (a .before .deviations-at .ensures) (record { fits = omega (arith, f .sC2) })
+
+add-arbitrary : tie.Need-add-arbitrary
+add-arbitrary c =
+    let a = c .before .before .before in
+    let f = at (a .before .before .before) in
+    rw (intra-is (c .before .before), a .before .deviations-at .ensures)
+    (record { fits = omega (arith, f .t2, f .sC2, f .variance-high) })
+
+mul-inter : tie.Need-mul-inter
+mul-inter c =
+    let a = c .before .before .before .before in
+    let f = at (a .before .before .before) in
+    rw (a .before .deviations-at .ensures) (record { fits = omega (arith, f .t-high) })
+
+round-div-requires : tie.Need-round-div-requires
+round-div-requires c κs =
+    let a = c .before .before .before .before in
+    let l = a .before .before in
+    let f = at (l .before) in
+    simp (l .ln-median .ensures, toZ-ofZ (f .ln-fits)) (omega (arith, f .ln-abs), lit≤ tt, lit≤ tt)
+
+exp-fixed-requires : tie.Need-exp-fixed-requires
+exp-fixed-requires c κs =
+    let a = c .before .before .before .before .before in
+    let l = a .before .before in
+    let f = at (l .before) in
+    simp (l .ln-median .ensures, toZ-ofZ (f .ln-fits)) (le-trans (f .ln-high) (lit≤ tt), le-trans (f .ln-low) (lit≤ tt))
+
+at-least-one-requires : tie.Need-at-least-one-requires
+at-least-one-requires c κs = search needs
+
+sigma-of-requires : tie.Need-sigma-of-requires
+sigma-of-requires c κs =
+    let v = c .before .before .before .before .before .before in
+    let f = at (v .before .before .before .before) in
+    rw (intra-is v) (le-trans (f .variance-high) (lit≤ tt))
+
+sigma-of-requires-2 : tie.Need-sigma-of-requires-2
+sigma-of-requires-2 c κs =
+    let v = c .before .before .before .before .before .before .before in
+    let f = at (v .before .before .before .before) in
+    rw (intra-is v, v .before .before .deviations-at .ensures) (omega (arith, f .variance-high, f .t2))
+
+sigma-of-requires-3 : tie.Need-sigma-of-requires-3
+sigma-of-requires-3 c κs =
+    let v = c .before .before .before .before .before .before .before .before in
+    let f = at (v .before .before .before .before) in
+    rw (intra-is v, v .before .before .deviations-at .ensures) (omega (arith, f .variance-high, f .t2, f .sC2))
+
+returns : tie.Need-returns
+unfolding rowFixed
+returns c =
+    let t = c .before in
+    let n = t .before in
+    let o = n .before in
+    let e = o .before in
+    let r = e .before in
+    let v = r .before .before .before .before in
+    let l = v .before .before .before in
+    let f = at (l .before) in
+    simp (
+      r .round-div .ensures,
+      o .at-least-one .ensures,
+      e .exp-fixed .ensures,
+      n .sigma-of .ensures,
+      t .sigma-of2 .ensures,
+      c .sigma-of3 .ensures,
+      intra-is v,
+      v .before .before .deviations-at .ensures,
+      l .ln-median .ensures,
+      toZ-ofZ (f .ln-fits),
+      toZ-ofZ (f .near-fits),
+    )
+
+pub row-from-spec : {M : Type 1} → statement M
+row-from-spec =
+    tie.close
+    (tie.spec
+    ln-median-requires
+    deviations-at-requires
+    alpha-of-requires
+    intra-variance-requires
+    mul-total
+    mul-total-2
+    add-total
+    mul-arbitrary
+    mul-arbitrary-2
+    add-arbitrary
+    mul-inter
+    round-div-requires
+    exp-fixed-requires
+    at-least-one-requires
+    sigma-of-requires
+    sigma-of-requires-2
+    sigma-of-requires-3
+    returns)

@@ -1,0 +1,176 @@
+-- Before each turn the rows below k and PGA's are the definition's, and the path and the soil at hand those of their c6 and k1. Assumes
+-- nothing.
+use borrow.Author.Needs.{needs}
+use Prim.Native.Nat.{ℕ, _+_, _-_, _≤_, _<_}
+use mathlib.Core.Path.{_≡_, refl, sym, subst, _∙_}
+use mathlib.Core.List.{List}
+use mathlib.Core.Logic.{⊎-elim, inl, inr}
+use native.Mathlib.Omega.{arith}
+use lib.Dec.{lit<}
+use lib.ListN.{length, getD}
+use Rattle.tables.specs.Tables.{coefficientsAt}
+use Rattle.model.specs.declared.Scenario.{Scenario}
+use Rattle.model.specs.declared.Row.{Row}
+use Rattle.measures.specs.declared.site.Soil.{Soil}
+use Rattle.measures.specs.declared.terms.Path.{Path}
+use Rattle.model.specs.Fixed.{rowFixed}
+use Rattle.measures.specs.Sharing.{pathOf, soilOf, sharedOf}
+use Rattle.measures.proofs.FilledRows.{Filled, set-filled, pass-filled, path-again, soil-again}
+use Rattle.measures.proofs.OfTables.{of-row, pga-row}
+use Rattle.measures.proofs.rows_of.Statement.{statement}
+use Rattle.measures.proofs.rows_of.Tie as tie
+
+record Turn (x : Scenario) (rows : List Row) (path : Path) (soil : Soil) (k : ℕ) : Type 0 where
+  filled : Filled x rows k
+  path-is : path ≡ pathOf (path .c6) x
+  soil-is : soil ≡ soilOf (soil .k1) x
+  end : k ≤ 24
+
+-- at equal values
+same-turn :
+    (x : Scenario) (k : ℕ) {rows rows' : List Row} {path path' : Path} {soil soil' : Soil} → rows ≡ rows' → path ≡ path' → soil ≡ soil'
+    → Turn x rows' path' soil' k → Turn x rows path soil k
+same-turn x k {rows} {rows'} {path} {path'} {soil} {soil'} e f g t =
+    subst (λ (r : List Row). Turn x r path soil k) (sym e)
+    (subst (λ (p : Path). Turn x rows' p soil k) (sym f) (subst (λ (s : Soil). Turn x rows' path' s k) (sym g) t))
+
+abbrev Inv-loop : tie.InvT-loop
+Inv-loop x rows₀ path₀ s soil₀ k₀ rows path soil k = Turn x rows path soil k
+
+abbrev μ-loop : tie.MeasureT-loop
+μ-loop x rows₀ path₀ s soil₀ k₀ rows path soil k = 24 - k
+
+-- ---- before the loop
+coefficients-at-requires : tie.Need-coefficients-at-requires Inv-loop μ-loop
+coefficients-at-requires c κs = lit< tt
+
+path-of-requires : tie.Need-path-of-requires Inv-loop μ-loop
+path-of-requires c κs = (pga-row _ (c .coefficients-at .ensures), c .before .pre)
+
+shared-of-requires : tie.Need-shared-of-requires Inv-loop μ-loop
+shared-of-requires c κs = (c .before .coefficients-at .ensures, c .before .before .pre, c .path-of .ensures)
+
+soil-of-requires : tie.Need-soil-of-requires Inv-loop μ-loop
+soil-of-requires c κs =
+    (pga-row _ (c .before .before .coefficients-at .ensures), c .before .before .before .pre, c .shared-of .ensures)
+
+row-from-requires : tie.Need-row-from-requires Inv-loop μ-loop
+row-from-requires c κs = (
+  lit< tt,
+  c .before .before .before .coefficients-at .ensures,
+  c .before .before .before .before .pre,
+  c .before .shared-of .ensures,
+  c .before .before .path-of .ensures,
+  c .soil-of .ensures,
+)
+
+array-set-from-rows : tie.Need-array-set-from-rows Inv-loop μ-loop
+array-set-from-rows c = search needs
+
+loop-holds : tie.Need-loop-holds Inv-loop μ-loop
+loop-holds c =
+    let x = c .before .before .before .before .before .args .x in
+    record {
+      filled = record { whole = refl; pga = c .row-from .ensures; below = λ j l. absurd (omega (arith, l)) };
+      path-is = path-again x _ _ (c .before .before .before .path-of .ensures);
+      soil-is = soil-again x _ _ (c .before .soil-of .ensures);
+      end = omega arith;
+    }
+
+-- ---- a turn
+coefficients-at-requires-2 : tie.Need-coefficients-at-requires-2 Inv-loop μ-loop
+coefficients-at-requires-2 c κs = c .before .loop-test .taken
+
+next-path-requires : tie.Need-next-path-requires Inv-loop μ-loop
+next-path-requires c κs =
+    let t = c .before .before in (
+      of-row _ _ (t .loop-test .taken) (c .coefficients-at2 .ensures),
+      t .before .before .before .before .before .before .before .pre,
+      t .before .loop .inv .path-is,
+    )
+
+next-soil-requires : tie.Need-next-soil-requires Inv-loop μ-loop
+next-soil-requires c κs =
+    let t = c .before .before .before in (
+      of-row _ _ (t .loop-test .taken) (c .before .coefficients-at2 .ensures),
+      t .before .before .before .before .before .before .before .pre,
+      t .before .before .before .before .shared-of .ensures,
+      t .before .loop .inv .soil-is,
+    )
+
+row-from-requires-2 : tie.Need-row-from-requires-2 Inv-loop μ-loop
+row-from-requires-2 c κs =
+    let t = c .before .before .before .before in (
+      t .loop-test .taken,
+      c .before .before .coefficients-at2 .ensures,
+      t .before .before .before .before .before .before .before .pre,
+      t .before .before .before .before .shared-of .ensures,
+      c .before .next-path .ensures,
+      c .next-soil .ensures,
+    )
+
+mul-rows : tie.Need-mul-rows Inv-loop μ-loop
+mul-rows c = search needs
+
+array-set-from-rows-2 : tie.Need-array-set-from-rows-2 Inv-loop μ-loop
+array-set-from-rows-2 c = c .before .before .before .before .before .loop-test .taken
+
+add-k : tie.Need-add-k Inv-loop μ-loop
+add-k c = search needs
+
+loop-less : tie.Need-loop-less Inv-loop μ-loop
+loop-less c = omega (arith, c .before .loop-test .taken)
+
+loop-again : tie.Need-loop-again Inv-loop μ-loop
+loop-again c =
+    let t = c .before in
+    let l = t .before in
+    let x = l .before .before .before .before .before .before .args .x in
+    let k = l .loop .k in
+    ⊎-elim
+    (λ w.
+    same-turn x (k + 1) (w .5) (w .6) (w .7)
+    (record {
+      filled = set-filled x (l .loop .rows) k _ (t .loop-test .taken) (w .0 .taken) (w .4 .ensures) (l .loop .inv .filled);
+      path-is = path-again x _ _ (w .2 .ensures);
+      soil-is = soil-again x _ _ (w .3 .ensures);
+      end = omega (arith, t .loop-test .taken);
+    }))
+    (λ w.
+    same-turn x (k + 1) (w .1) (w .2) (w .3)
+    (record {
+      filled = pass-filled x (l .loop .rows) k (w .0 .left) (l .loop .inv .filled);
+      path-is = l .loop .inv .path-is;
+      soil-is = l .loop .inv .soil-is;
+      end = omega (arith, t .loop-test .taken);
+    }))
+    (c .if1 .came)
+
+returns : tie.Need-returns Inv-loop μ-loop
+returns c =
+    let t = c .before .loop .inv in
+    (t .filled .whole, λ k h. t .filled .below k (omega (arith, h, c .loop-test .left)))
+
+pub rows-of-spec : {M : Type 1} → statement M
+rows-of-spec =
+    tie.close
+    (tie.spec
+    Inv-loop
+    μ-loop
+    coefficients-at-requires
+    path-of-requires
+    shared-of-requires
+    soil-of-requires
+    row-from-requires
+    array-set-from-rows
+    loop-holds
+    coefficients-at-requires-2
+    next-path-requires
+    next-soil-requires
+    row-from-requires-2
+    mul-rows
+    array-set-from-rows-2
+    add-k
+    loop-less
+    loop-again
+    returns)
