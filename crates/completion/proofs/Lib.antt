@@ -5,5 +5,4 @@ pub mod EstimatesNear
 pub mod Alone
 pub mod SentBackWhole
 pub mod OneAnswer
-pub mod Examples
 pub mod Staged

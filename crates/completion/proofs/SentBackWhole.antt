@@ -95,11 +95,11 @@ module _ (r : Request) (accepted : refusal r ≡ 0) where
       let c8 = clear (8, not (within (r .rjb) (pos 0) (pos 200000))) _ tt (path-rows .0) in
       (c8 .0, clear (9, not (within (r .azimuth) (negsuc 179) (pos 180))) _ tt (c8 .1) .0)
 
-  rrup-high : rrup r .value ≤ 200000
+  pub rrup-high : rrup r .value ≤ 200000
   rrup-high = ltb-false 200000 (rrup r .value) (path-rows .1)
 
   -- one metre longer, the completed RRUP reaches the top of the rupture
-  long-enough :
+  pub long-enough :
       sizeOf (r .rjb) * sizeOf (r .rjb) + ztor r .value * ztor r .value ≤ (rrup r .value + 1) * (rrup r .value + 1)
   unfolding tooShort
   long-enough = by-field (r .rrup) refl
@@ -127,7 +127,7 @@ module _ (r : Request) (accepted : refusal r ≡ 0) where
       (skip 11 _ _ (le-ltb 200000 (rrup r .value) rrup-high)
       (skip 12 _ _ not-short nothing)))))
 
-  site-rows :
+  pub site-rows :
       (not (allowed (r .z10) (pos 0) (pos 10000)) ≡ false) × (not (allowed (r .z15) (pos 0) (pos 10000)) ≡ false)
       × (z25 r .value ≤ 10000)
   unfolding siteRows siteGiven

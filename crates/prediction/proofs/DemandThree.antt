@@ -1,0 +1,50 @@
+-- Demand 3 for a request: every row of an accepted request's spectrum is as near the exact values as `Accurate` says, and a refused
+-- one has its number and zeros in all 24 rows. So no spectrum given always, no row copied and no row left zero passes. Assumes
+-- nothing.
+use Prim.Native.Nat.{ℕ, _<_}
+use mathlib.Core.Path.{_≡_, sym, ap, subst}
+use lib.ListN.{length, getD, length-replicate, getD-replicate}
+use Rattle.request.specs.declared.Request.{Request}
+use Rattle.completion.specs.declared.Completed.{Completed}
+use Rattle.completion.specs.declared.Completion.the-variants as C
+use Rattle.completion.specs.Answers.{completionOf, numberOf}
+use Rattle.model.specs.Fixed.{noRow}
+use Rattle.model.specs.Accuracy.{Accurate}
+use Rattle.model.proofs.Demand.{demand-3}
+use Rattle.prediction.specs.declared.Spectrum.{Spectrum}
+use Rattle.prediction.specs.Spectra.{scenarioOf, refusedWith, spectrumFor, spectrumOf, Small}
+use Rattle.prediction.proofs.Completed.{in-range}
+use Rattle.prediction.proofs.RowLaws.{rows-length, row-is, row-small, zeros-small, spectrum-done, spectrum-refused, by-completion}
+
+-- ---- accepted
+pub accepted-rows :
+    (r : Request) (c : Completed) (k : ℕ) → completionOf r ≡ C.Done c → k < 24
+    → Accurate k (scenarioOf c) (getD (spectrumOf r .rows) k noRow)
+accepted-rows r c k e h =
+    rw (spectrum-done r c e, row-is (scenarioOf c) k h) (demand-3 k (scenarioOf c) h (in-range r c e))
+
+-- ---- refused
+pub refused-number : (r : Request) (n : ℕ) → completionOf r ≡ C.Refused n → spectrumOf r .refusal ≡ n
+unfolding refusedWith
+refused-number r n e = ap (λ (s : Spectrum). s .refusal) (spectrum-refused r n e)
+
+pub refused-rows : (r : Request) (n k : ℕ) → completionOf r ≡ C.Refused n → k < 24 → getD (spectrumOf r .rows) k noRow ≡ noRow
+unfolding refusedWith
+refused-rows r n k e h = rw (spectrum-refused r n e) (getD-replicate 24 k noRow noRow h)
+
+-- ---- any request
+-- the number is the completion's, 0 for none
+pub number-handed-on : (r : Request) → spectrumOf r .refusal ≡ numberOf (completionOf r)
+unfolding spectrumOf spectrumFor refusedWith numberOf
+number-handed-on r = by-completion r (λ c e. rw e) (λ n e. rw e)
+
+pub twenty-four : (r : Request) → length (spectrumOf r .rows) ≡ 24
+unfolding refusedWith
+twenty-four r =
+    by-completion r (λ c e. rw (spectrum-done r c e) (rows-length (scenarioOf c)))
+    (λ n e. rw (spectrum-refused r n e) (length-replicate 24 noRow))
+
+pub rows-small : (r : Request) (k : ℕ) → k < 24 → Small (getD (spectrumOf r .rows) k noRow)
+rows-small r k h =
+    by-completion r (λ c e. rw (spectrum-done r c e) (row-small (scenarioOf c) k h (in-range r c e)))
+    (λ n e. subst Small (sym (refused-rows r n k e h)) zeros-small)

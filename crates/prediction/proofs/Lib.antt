@@ -1,0 +1,6 @@
+pub mod Completed
+pub mod RowLaws
+pub mod DemandThree
+pub mod FloatLaws
+pub mod MeasureLaws
+pub mod OneAnswer

@@ -1,0 +1,104 @@
+-- The rows of a spectrum one by one, how large their figures are, and that 24 rows given at every index are the spectrum's. Assumes
+-- nothing.
+use Prim.Native.Nat.{ℕ, zero, suc, _+_, _*_, _≤_, _<_}
+use mathlib.Core.Path.{_≡_, refl, sym, ap, subst, _∙_}
+use mathlib.Core.List.{List}
+use native.Mathlib.Omega.{arith}
+use native.Mathlib.Nat.{mul-le-mul, mul-le-mul-right}
+use lib.Dec.{lit≤}
+use lib.ListN.{length, getD}
+use lib.Seq.{ext-getD}
+use Rattle.request.specs.declared.Request.{Request}
+use Rattle.completion.specs.declared.Completed.{Completed}
+use Rattle.completion.specs.declared.Completion.{Completion}
+use Rattle.completion.specs.declared.Completion.the-variants as C
+use Rattle.completion.specs.Answers.{completionOf}
+use Rattle.tables.specs.Tables.{deviationsAt}
+use Rattle.model.specs.declared.Scenario.{Scenario}
+use Rattle.model.specs.declared.Row.{Row}
+use Rattle.model.specs.Fixed.{rowFixed, noRow, varianceFixed}
+use Rattle.model.specs.Accuracy.{InRange}
+use Rattle.model.proofs.Fair.{spread-at}
+use Rattle.model.proofs.Reported.{median-fits}
+use Rattle.model.proofs.Sizes.{ln-size, sigma-size, variance-size}
+use Rattle.prediction.specs.Spectra.{scenarioOf, rowsFrom, rowsOf, refusedWith, spectrumFor, spectrumOf, Small}
+
+-- ---- the rows
+from-length : (n k : ℕ) (x : Scenario) → length (rowsFrom n k x) ≡ n
+unfolding rowsFrom
+from-length zero k x = refl
+from-length (suc n) k x = ap suc (from-length n (k + 1) x)
+
+from-at : (n k : ℕ) (x : Scenario) (j : ℕ) → j < n → getD (rowsFrom n k x) j noRow ≡ rowFixed (k + j) x
+unfolding rowsFrom
+from-at zero k x j h = absurd (omega arith)
+from-at (suc n) k x zero h = ap (λ (i : ℕ). rowFixed i x) (same k)
+  where
+    same : (k : ℕ) → k ≡ k + 0
+    same k = omega arith
+from-at (suc n) k x (suc j) h = from-at n (k + 1) x j (omega arith) ∙ ap (λ (i : ℕ). rowFixed i x) (same k j)
+  where
+    same : (k j : ℕ) → k + 1 + j ≡ k + suc j
+    same k j = omega arith
+
+pub rows-length : (x : Scenario) → length (rowsOf x) ≡ 24
+unfolding rowsOf
+rows-length x = from-length 24 0 x
+
+pub row-is : (x : Scenario) (k : ℕ) → k < 24 → getD (rowsOf x) k noRow ≡ rowFixed k x
+unfolding rowsOf
+row-is x k h = from-at 24 0 x k h ∙ ap (λ (i : ℕ). rowFixed i x) (same k)
+  where
+    same : (k : ℕ) → 0 + k ≡ k
+    same k = omega arith
+
+-- an array that is right at every index is the list
+pub rows-are :
+    (x : Scenario) (rows : List Row) → length rows ≡ 24 → ((k : ℕ) → k < 24 → getD rows k noRow ≡ rowFixed k x) → rows ≡ rowsOf x
+rows-are x rows e h =
+    ext-getD noRow rows (rowsOf x) (e ∙ sym (rows-length x))
+    (λ i l. let k : i < 24 = omega (arith, e) in h i k ∙ sym (row-is x i k))
+
+-- ---- a spectrum by the completion's case
+pub spectrum-done : (r : Request) (c : Completed) → completionOf r ≡ C.Done c → spectrumOf r .rows ≡ rowsOf (scenarioOf c)
+unfolding spectrumOf spectrumFor
+spectrum-done r c e = rw e
+
+pub spectrum-refused : (r : Request) (n : ℕ) → completionOf r ≡ C.Refused n → spectrumOf r ≡ refusedWith n
+unfolding spectrumOf spectrumFor
+spectrum-refused r n e = rw e
+
+-- the two cases of any request
+pub by-completion :
+    {P : Type 0} (r : Request) → ((c : Completed) → completionOf r ≡ C.Done c → P) → ((n : ℕ) → completionOf r ≡ C.Refused n → P) → P
+by-completion {P} r f g = go (completionOf r) refl
+  where
+    go : (a : Completion) → completionOf r ≡ a → P
+    go (C.Done c) e = f c e
+    go (C.Refused n) e = g n e
+
+-- ---- how large
+pub fixed-small : (i : ℕ) (x : Scenario) → i < 24 → InRange x → Small (rowFixed i x)
+unfolding rowFixed
+fixed-small i x h r =
+    let v = variance-size i x h r in
+    let d = spread-at i h in
+    let t : ℕ = deviationsAt i .t * deviationsAt i .t * 1000 in
+    let a : ℕ = deviationsAt i .sC * deviationsAt i .sC * 1000 in
+    let t-high : t ≤ 250000000 = mul-le-mul-right 1000 (mul-le-mul (d .t-high) (d .t-high)) in
+    let a-high : a ≤ 90000000 = mul-le-mul-right 1000 (mul-le-mul (d .sC-high) (d .sC-high)) in
+    record {
+      ln = ln-size i x h r;
+      median = median-fits i x h r;
+      intra = sigma-size (varianceFixed i x) (v .0) (omega (arith, v .1)) .1;
+      inter = omega (arith, d .t-high);
+      total = sigma-size (varianceFixed i x + t) (omega (arith, v .0)) (omega (arith, v .1, t-high)) .1;
+      arbitrary = sigma-size (varianceFixed i x + t + a) (omega (arith, v .0)) (omega (arith, v .1, t-high, a-high)) .1;
+    }
+
+pub zeros-small : Small noRow
+zeros-small =
+    record { ln = lit≤ tt; median = lit≤ tt; intra = lit≤ tt; inter = lit≤ tt; total = lit≤ tt; arbitrary = lit≤ tt }
+
+pub row-small : (x : Scenario) (k : ℕ) → k < 24 → InRange x → Small (getD (rowsOf x) k noRow)
+row-small x k h r = subst Small (sym (row-is x k h)) (fixed-small k x h r)

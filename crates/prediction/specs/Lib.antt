@@ -1,0 +1,3 @@
+pub mod Spectra
+pub mod Floats
+pub mod Measures

@@ -1,0 +1,63 @@
+-- A request's spectrum: the 24 rows of its completed figures, or the refusal's number with zeros in all else. Definitions only.
+use Prim.Native.Nat.{ℕ, zero, suc, _+_, _≤_, _<_}
+use mathlib.Core.List.{List, [], _∷_}
+use lib.IntN.{natAbs}
+use lib.ListN.{replicate}
+use Rattle.request.specs.declared.Request.{Request}
+use Rattle.request.specs.Styles.{styleOf}
+use Rattle.completion.specs.declared.Completed.{Completed}
+use Rattle.completion.specs.declared.Completion.{Completion}
+use Rattle.completion.specs.declared.Completion.the-variants as C
+use Rattle.completion.specs.Answers.{completionOf}
+use Rattle.model.specs.declared.Scenario.{Scenario}
+use Rattle.model.specs.declared.Row.{Row}
+use Rattle.model.specs.Fixed.{rowFixed, noRow}
+use Rattle.prediction.specs.declared.Spectrum.{Spectrum}
+
+-- what the model reads of a completed request
+unfoldable pub scenarioOf : Completed → Scenario
+unfolding styleOf
+scenarioOf c =
+    record {
+      m = c .m;
+      style = styleOf (c .rake);
+      vs30 = c .vs30;
+      dip = c .dip .value;
+      ztor = c .ztor .value;
+      rjb = c .rjb;
+      rrup = c .rrup .value;
+      z25 = c .z25 .value;
+    }
+
+-- n rows from measure k on
+unfoldable pub rowsFrom : ℕ → ℕ → Scenario → List Row
+unfolding rowFixed
+rowsFrom zero k x = []
+rowsFrom (suc n) k x = rowFixed k x ∷ rowsFrom n (k + 1) x
+
+unfoldable pub rowsOf : Scenario → List Row
+unfolding rowsFrom
+rowsOf x = rowsFrom 24 0 x
+
+-- zeros beside a refusal's number
+unfoldable pub refusedWith : ℕ → Spectrum
+refusedWith n = record { refusal = n; rows = replicate 24 noRow }
+
+-- by the completion's case
+unfoldable pub spectrumFor : Completion → Spectrum
+unfolding rowsOf scenarioOf refusedWith
+spectrumFor (C.Done c) = record { refusal = 0; rows = rowsOf (scenarioOf c) }
+spectrumFor (C.Refused n) = refusedWith n
+
+unfoldable pub spectrumOf : Request → Spectrum
+unfolding spectrumFor completionOf
+spectrumOf r = spectrumFor (completionOf r)
+
+-- how large the figures of a row are: ln median at most 15 and a millionth, the median below 2^53, a sigma at most 1.55
+pub record Small (r : Row) : Type 0 where
+  pub ln : natAbs (r .ln) ≤ 15000001
+  pub median : r .median < 9007199254740992
+  pub intra : r .intra ≤ 1550000
+  pub inter : r .inter ≤ 1550000
+  pub total : r .total ≤ 1550000
+  pub arbitrary : r .arbitrary ≤ 1550000

@@ -1,0 +1,86 @@
+// A request predicted: completed, and the 24 measures of it reckoned; or the first refusal in
+// document 01's order, handed on from the completion with zeros in all else.
+mod floats;
+mod measure;
+
+use completion::Completed;
+use completion::Completion;
+use completion::complete;
+pub use floats::FloatRow;
+pub use floats::FloatSpectrum;
+pub use floats::predict_floats;
+pub use measure::OneMeasure;
+pub use measure::predict_measure;
+use measures::rows_of;
+use model::Row;
+use model::Scenario;
+use request::Request;
+use request::style_of;
+ghost use mathlib.Core.Path.{_≡_};
+ghost use Rattle.prediction.specs.Spectra.{scenarioOf, refusedWith, spectrumOf};
+
+// The refusal's number, 0 for none, and a row for each measure.
+pub struct Spectrum {
+    pub refusal: u32,
+    pub rows: [Row; 24],
+}
+
+// The completed figures that the model reads.
+fn scenario_of(c: Completed) -> Scenario
+    ensures { λ r. ⌜ r ≡ scenarioOf c ⌝ }
+{
+    let rake = c.rake;
+    let dip = c.dip;
+    let ztor = c.ztor;
+    let rrup = c.rrup;
+    let z25 = c.z25;
+    Scenario {
+        m: c.m,
+        style: style_of(rake),
+        vs30: c.vs30,
+        dip: dip.value,
+        ztor: ztor.value,
+        rjb: c.rjb,
+        rrup: rrup.value,
+        z25: z25.value,
+    }
+}
+
+// Zeros beside a refusal's number.
+fn refused(n: u32) -> Spectrum
+    ensures { λ s. ⌜ s ≡ refusedWith n ⌝ }
+{
+    let none = Row {
+        ln: 0,
+        median: 0,
+        intra: 0,
+        inter: 0,
+        total: 0,
+        arbitrary: 0,
+    };
+    let rows = [none; 24];
+    Spectrum {
+        refusal: n,
+        rows: rows,
+    }
+}
+
+// Predicts all measures of any request. It asks for nothing: each of the thirteen fields may hold any
+// i64.
+pub fn predict(r: Request) -> Spectrum
+    ensures { λ s. ⌜ s ≡ spectrumOf r ⌝ }
+{
+    let c = complete(r);
+    let Completion::Done(f) = c else {
+        match c {
+            Completion::Refused(n) => return refused(n),
+            Completion::Done(_) => return refused(0),
+        }
+    };
+    let x = scenario_of(f);
+    let rows = rows_of(x);
+    Spectrum {
+        refusal: 0,
+        rows: rows,
+    }
+}
