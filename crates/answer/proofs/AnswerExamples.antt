@@ -1,13 +1,23 @@
--- Document 01's listing, line by line, worked out by the definition. Assumes nothing.
+-- Document 01's listing, line by line, and the line of a measure, worked out by the definitions. Assumes nothing.
 use mathlib.Core.Path.{_≡_, refl}
+use lib.IntN.{negsuc}
 use Rattle.text.specs.Grammar.{isDigit, digitsOf, numberOf, plain, figureOf, given, fieldOf, spaceAt, inFront, fieldsOf, requestOf, toLine}
-use Rattle.text.specs.Render.{ascii, digitsIn, render}
-use Rattle.answer.specs.Lines.{answerTo}
+use Rattle.text.specs.Render.{ascii, digitsIn, render, renderSigned}
+use Rattle.answer.specs.declared.Sheet.the-variants as S
+use Rattle.answer.specs.RowLines.{rowLine}
+use Rattle.answer.specs.Sheets.{answerTo}
 
 listing :
-    (answerTo (ascii "650 0 760 - 10000 - 3000 4000 30 - - - 2000") ≡ ascii "ok 90 10000 3000 5000 2000 eggeg\n")
-    × (answerTo (ascii "851 0 760 - 10000 - 3000 4000 30 - - - 2000") ≡ ascii "no 2\n")
-    × (answerTo (ascii "650 90 300 40 10000 - 3000 0 90 - - - 2000") ≡ ascii "no 10\n")
-    × (answerTo (ascii "") ≡ ascii "no 14\n")
+    (answerTo S.Completion (ascii "650 0 760 - 10000 - 3000 4000 30 - - - 2000") ≡ ascii "ok 90 10000 3000 5000 2000 eggeg\n")
+    × (answerTo S.Completion (ascii "851 0 760 - 10000 - 3000 4000 30 - - - 2000") ≡ ascii "no 2\n")
+    × (answerTo S.Completion (ascii "650 90 300 40 10000 - 3000 0 90 - - - 2000") ≡ ascii "no 10\n")
+    × (answerTo S.Completion (ascii "") ≡ ascii "no 14\n")
+    × (answerTo S.Prediction (ascii "") ≡ ascii "no 14\n")
 unfolding answerTo ascii toLine fieldsOf spaceAt inFront fieldOf given figureOf plain numberOf digitsOf isDigit requestOf render digitsIn
-listing = (refl, refl, refl, refl)
+listing = (refl, refl, refl, refl, refl)
+
+line-of-a-measure :
+    rowLine 21 (record { ln = negsuc 1234; median = 2909; intra = 478; inter = 219; total = 525; arbitrary = 551 })
+    ≡ ascii "21 -1235 2909 525\n"
+unfolding rowLine ascii renderSigned render digitsIn
+line-of-a-measure = refl

@@ -10,14 +10,13 @@ use borrow.Author.Tests.{lt-ltb, le-ltb, ltb-true, ltb-false}
 use lib.Dec.{ltb}
 use lib.ListN.{length, getD, take, drop, set, length-append, take-append-drop}
 use lib.Seq.{length-take-le, take-suc}
-use Rattle.completion.specs.declared.figure.Figure.{Figure}
 use Rattle.completion.specs.declared.Completed.{Completed}
 use Rattle.text.specs.Grammar.{space}
 use Rattle.text.specs.Render.{ascii, render, put, Written}
 use Rattle.text.proofs.PutLaws.{put-one, put-put, length-put}
 use Rattle.answer.specs.declared.Wrote.{Wrote}
 use Rattle.answer.specs.declared.Wrote.the-variants as W
-use Rattle.answer.specs.Lines.{spaced, letters, okLine, noLine, wrote, after, LineWritten}
+use Rattle.answer.specs.Lines.{lf, ended, letters, okLine, noLine, wrote, after, LineWritten}
 
 -- ---- a text, byte by byte
 pub put-nothing : (b : List ℕ) (p : ℕ) → b ≡ put b p []
@@ -38,9 +37,9 @@ module _ (b : List ℕ) (p : ℕ) (s : List ℕ) (i : ℕ) (room : p + length s 
       ∙ ap (put b p) (rw (add-one i) (sym (take-suc s i 0 inside)))
 
 -- ---- the lengths
-length-spaced : (f : Figure) → length (spaced f) ≡ length (render (f .value)) + 1
-unfolding spaced
-length-spaced f = length-append (render (f .value)) (space ∷ [])
+pub length-ended : (n end : ℕ) → length (ended n end) ≡ length (render n) + 1
+unfolding ended
+length-ended n end = length-append (render n) (end ∷ [])
 
 pub length-ok :
     (c : Completed)
@@ -51,11 +50,18 @@ pub length-ok :
 unfolding okLine ascii letters
 length-ok c =
     simp length-append
-    (omega (arith, length-spaced (c .dip), length-spaced (c .w), length-spaced (c .ztor), length-spaced (c .rrup), length-spaced (c .z25)))
+    (omega (
+      arith,
+      length-ended (c .dip .value) space,
+      length-ended (c .w .value) space,
+      length-ended (c .ztor .value) space,
+      length-ended (c .rrup .value) space,
+      length-ended (c .z25 .value) space,
+    ))
 
 pub length-no : (n : ℕ) → length (noLine n) ≡ length (render n) + 4
 unfolding noLine ascii
-length-no n = simp length-append (omega arith)
+length-no n = simp length-append (omega (arith, length-ended n lf))
 
 -- ---- what a line writer promises
 pub refuses : (b s : List ℕ) → length b < length s → LineWritten b s (W.Refused 16) b

@@ -1,27 +1,35 @@
--- No answer line is longer than 38 bytes, its LF counted: an accepted request's figures lie in their ranges, and no refusal's number is
--- above 14. Assumes nothing.
-use Prim.Native.Nat.{ℕ, zero, suc, _≤_}
-use mathlib.Core.Path.{_≡_, refl}
+-- No answer line is longer than 38 bytes, its LF counted: an accepted request's figures lie in their ranges, its rows' too, and no
+-- refusal's number is above 14. Assumes nothing.
+use Prim.Native.Nat.{ℕ, zero, suc, _*_, _≤_, _<_}
+use mathlib.Core.Path.{_≡_, refl, ap}
 use mathlib.Core.Bool.{Bool, true, false, _&&_}
 use mathlib.Core.List.{List, [], _∷_}
 use native.Mathlib.Omega.{arith}
-use lib.Dec.{T, ltb, leb, leb→le}
+use lib.Dec.{T, leb, eqb, leb→le}
 use lib.Ieee.Fits.{and-l, and-r}
-use lib.ListN.{length}
-use borrow.Author.Tests.{ltb-false}
+use lib.ListN.{length, getD, length-append}
+use borrow.Author.Tests.{eqb-true, eqb-false}
 use Rattle.request.specs.declared.Request.{Request}
-use Rattle.completion.specs.Figures.{rrup, z25}
-use Rattle.completion.specs.Refusals.{Rows, first, sourceGiven, sourceRows, pathGiven, tooShort, pathRows, siteGiven, siteRows, rows, refusal}
-use Rattle.completion.specs.Answers.{completed, answer}
-use Rattle.completion.proofs.Rows.{clear, first-both}
-use Rattle.completion.proofs.ExactlyWhen.{stages}
+use Rattle.completion.specs.Refusals.{Rows, first, sourceGiven, sourceRows, pathGiven, pathRows, siteGiven, siteRows, rows, refusal}
+use Rattle.completion.specs.Answers.{completed, answer, completionOf}
+use Rattle.completion.proofs.ExactlyWhen.{stages, number-is}
 use Rattle.completion.proofs.Ranges.{source-range, source-given, top-range}
+use Rattle.completion.proofs.SentBackWhole.{rrup-high, site-rows}
+use Rattle.model.specs.declared.Row.{Row}
+use Rattle.model.specs.Fixed.{noRow}
+use Rattle.prediction.specs.Spectra.{Small, spectrumOf}
+use Rattle.prediction.proofs.DemandThree.{rows-small, number-handed-on}
 use Rattle.text.specs.declared.read.Line.{Line}
 use Rattle.text.specs.declared.read.Line.the-variants as L
 use Rattle.text.specs.Grammar.{lineOf}
-use Rattle.text.proofs.RenderLaws.{length-render}
-use Rattle.answer.specs.Lines.{longestAnswer, okLine, noLine, completionLine, replyOf, answerTo}
+use Rattle.text.proofs.RenderLaws.{length-render, length-signed}
+use Rattle.answer.specs.declared.Sheet.{Sheet}
+use Rattle.answer.specs.declared.Sheet.the-variants as S
+use Rattle.answer.specs.Lines.{okLine, noLine, completionLine}
+use Rattle.answer.specs.RowLines.{rowLine, rowLines, spectrumLines}
+use Rattle.answer.specs.Sheets.{sheetOf, replyOf, answerTo, longestAnswer}
 use Rattle.answer.proofs.LineLaws.{length-ok, length-no}
+use Rattle.answer.proofs.RowLaws.{length-row, refused-line, good-lines}
 
 -- ---- the numbers of refusals
 -- no row has a number above 13
@@ -39,21 +47,15 @@ refusal-small : (r : Request) → refusal r ≤ 13
 unfolding refusal rows sourceRows sourceGiven pathRows pathGiven siteRows siteGiven
 refusal-small r = first-small (rows r) tt
 
--- ---- the figures of an accepted request
-rrup-high : (r : Request) → first (pathRows r) ≡ 0 → rrup r .value ≤ 200000
-unfolding pathRows pathGiven
-rrup-high r e =
-    let t = first-both (pathGiven r) ((11, ltb 200000 (rrup r .value)) ∷ (12, tooShort r) ∷ []) tt e in
-    ltb-false 200000 (rrup r .value) (clear (11, ltb 200000 (rrup r .value)) ((12, tooShort r) ∷ []) tt (t .1) .0)
-
-z25-high : (r : Request) → first (siteRows r) ≡ 0 → z25 r .value ≤ 10000
-unfolding siteRows siteGiven
-z25-high r e =
-    let t = first-both (siteGiven r) ((13, ltb 10000 (z25 r .value)) ∷ []) tt e in
-    ltb-false 10000 (z25 r .value) (clear (13, ltb 10000 (z25 r .value)) [] tt (t .1) .0)
-
 -- ---- the lines
-ok-short : (r : Request) → refusal r ≡ 0 → length (okLine (completed r)) ≤ longestAnswer
+-- the most bytes of a line
+abbrev most : ℕ
+most = longestAnswer S.Completion
+
+no-short : (n : ℕ) → n ≤ 14 → length (noLine n) ≤ most
+no-short n h = omega (arith, length-no n, length-render 1 n (omega arith))
+
+ok-short : (r : Request) → refusal r ≡ 0 → length (okLine (completed r)) ≤ most
 unfolding completed
 ok-short r e =
     let s = stages r e in
@@ -64,22 +66,65 @@ ok-short r e =
       length-render 1 (completed r .dip .value) (omega (arith, range .dip-high)),
       length-render 5 (completed r .w .value) (omega (arith, range .w-high)),
       length-render 4 (completed r .ztor .value) (omega (arith, top-range r (s .source))),
-      length-render 5 (completed r .rrup .value) (omega (arith, rrup-high r (s .path))),
-      length-render 4 (completed r .z25 .value) (omega (arith, z25-high r (s .site))),
+      length-render 5 (completed r .rrup .value) (omega (arith, rrup-high r e)),
+      length-render 4 (completed r .z25 .value) (omega (arith, site-rows r e .2)),
     )
 
-no-short : (n : ℕ) → n ≤ 14 → length (noLine n) ≤ longestAnswer
-no-short n h = omega (arith, length-no n, length-render 1 n (omega arith))
-
-reply-short : (l : Line) → length (completionLine (replyOf l)) ≤ longestAnswer
-unfolding completionLine replyOf answer
-reply-short L.Malformed = no-short 14 (omega arith)
-reply-short (L.Is r) = go (refusal r) refl
+completion-short : (r : Request) → length (completionLine (completionOf r)) ≤ most
+unfolding completionLine completionOf answer
+completion-short r = go (refusal r) refl
   where
-    go : (n : ℕ) → refusal r ≡ n → length (completionLine (answer n r)) ≤ longestAnswer
+    go : (n : ℕ) → refusal r ≡ n → length (completionLine (answer n r)) ≤ most
     go zero e = ok-short r e
     go (suc n) e = no-short (suc n) (omega (arith, refusal-small r))
 
-pub answer-short : (s : List ℕ) → length (answerTo s) ≤ longestAnswer
+row-short : (k : ℕ) (row : Row) → k < 24 → Small row → length (rowLine k row) ≤ most
+row-short k row h b =
+    omega (
+      arith,
+      length-row k row,
+      length-render 1 k (omega arith),
+      length-signed 7 (row .ln) (omega (arith, b .ln)),
+      length-render 15 (row .median) (omega (arith, b .median)),
+      length-render 6 (row .total) (omega (arith, b .total)),
+    )
+
+rows-short : (rows : List Row) → ((k : ℕ) → k < 24 → Small (getD rows k noRow)) → (n : ℕ) → n ≤ 24 → length (rowLines n rows) ≤ n * most
+unfolding rowLines
+rows-short rows b zero h = omega arith
+rows-short rows b (suc n) h =
+    omega (
+      arith,
+      rows-short rows b n (omega arith),
+      length-append (rowLines n rows) (rowLine n (getD rows n noRow)),
+      row-short n (getD rows n noRow) (omega arith) (b n (omega arith)),
+    )
+
+spectrum-short : (r : Request) → length (spectrumLines (spectrumOf r)) ≤ longestAnswer S.Prediction
+spectrum-short r = go (eqb (spectrumOf r .refusal) 0) refl
+  where
+    go : (t : Bool) → eqb (spectrumOf r .refusal) 0 ≡ t → length (spectrumLines (spectrumOf r)) ≤ longestAnswer S.Prediction
+    go true e =
+        omega (
+          arith,
+          ap length (good-lines (spectrumOf r) (eqb-true (spectrumOf r .refusal) 0 e)),
+          rows-short (spectrumOf r .rows) (rows-small r) 24 (omega arith),
+        )
+    go false e =
+        omega (
+          arith,
+          ap length (refused-line (spectrumOf r) (eqb-false (spectrumOf r .refusal) 0 e)),
+          no-short (spectrumOf r .refusal) (omega (arith, number-handed-on r, number-is r, refusal-small r)),
+        )
+
+-- ---- the answers
+reply-short : (sheet : Sheet) (l : Line) → length (replyOf sheet l) ≤ longestAnswer sheet
+unfolding replyOf sheetOf
+reply-short S.Completion (L.Is r) = completion-short r
+reply-short S.Completion L.Malformed = no-short 14 (omega arith)
+reply-short S.Prediction (L.Is r) = spectrum-short r
+reply-short S.Prediction L.Malformed = omega (arith, no-short 14 (omega arith))
+
+pub answer-short : (sheet : Sheet) (s : List ℕ) → length (answerTo sheet s) ≤ longestAnswer sheet
 unfolding answerTo
-answer-short s = reply-short (lineOf s)
+answer-short sheet s = reply-short sheet (lineOf s)

@@ -16,14 +16,14 @@ use Rattle.text.specs.Render.{ascii, render, put}
 use Rattle.text.proofs.PutLaws.{text-put}
 use Rattle.text.proofs.RoundTrip.{digits-back, space-past, number-no-space}
 use Rattle.answer.specs.declared.Wrote.the-variants as W
-use Rattle.answer.specs.Lines.{lf, estimate, given, letterOf, spaced, letters, okLine, noLine, completionLine, LineWritten}
+use Rattle.answer.specs.Lines.{lf, estimate, given, ended, letterOf, spaced, letters, okLine, noLine, completionLine, LineWritten}
 use Rattle.answer.specs.ReadBack.{figures, number, reportOf, valueOf, numberIn, behind, figureIn, figuresIn, readBack}
 use Rattle.answer.proofs.LineLaws.{to-fits, after-fits}
 
 -- ---- a figure and what stands behind it
 module _ (f : Figure) (s : List ℕ) where
   open-spaced : spaced f ++ s ≡ render (f .value) ++ space ∷ s
-  unfolding spaced
+  unfolding ended
   open-spaced = append-assoc (render (f .value)) (space ∷ []) s
 
   space-first : spaceAt (render (f .value) ++ space ∷ s) ≡ length (render (f .value))
@@ -95,7 +95,7 @@ ok-back c =
     ∙ rw (figure-back (c .dip), figure-back (c .w), figure-back (c .ztor), figure-back (c .rrup), figure-back (c .z25))
 
 no-back : (n : ℕ) → readBack (noLine n) ≡ number n
-unfolding readBack noLine valueOf
+unfolding readBack noLine ended valueOf
 no-back n =
     ap (λ (s : List ℕ). number (valueOf (digitsOf 0 s)))
     (take-at (render n) (lf ∷ []) (length (render n ++ (lf ∷ [])) - 1) (omega (arith, length-append (render n) (lf ∷ []))))

@@ -1,2 +1,4 @@
 pub mod Lines
+pub mod RowLines
+pub mod Sheets
 pub mod ReadBack

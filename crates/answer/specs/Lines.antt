@@ -1,5 +1,5 @@
--- The answer lines of the completing program, as document 01 prints them under "Examples": the bytes of a line, its LF among them, and
--- what a writer of a line leaves in lent bytes. Definitions only.
+-- The answer lines of the completing program, as document 01 prints them under "Examples": the bytes of a line, its LF among them; the
+-- line of a refusal, which both programs print; and what a writer of lines leaves in lent bytes. Definitions only.
 use Prim.Native.Nat.{ℕ}
 use mathlib.Core.Path.{_≡_}
 use mathlib.Core.Bool.{cond}
@@ -10,10 +10,7 @@ use Rattle.completion.specs.declared.figure.Figure.{Figure}
 use Rattle.completion.specs.declared.Completed.{Completed}
 use Rattle.completion.specs.declared.Completion.{Completion}
 use Rattle.completion.specs.declared.Completion.the-variants as C
-use Rattle.completion.specs.Answers.{completionOf}
-use Rattle.text.specs.declared.read.Line.{Line}
-use Rattle.text.specs.declared.read.Line.the-variants as L
-use Rattle.text.specs.Grammar.{space, lineOf}
+use Rattle.text.specs.Grammar.{space}
 use Rattle.text.specs.Render.{ascii, render, put}
 use Rattle.answer.specs.declared.Wrote.{Wrote}
 use Rattle.answer.specs.declared.Wrote.the-variants as W
@@ -31,13 +28,17 @@ abbrev pub given : ℕ
 given = 103
 
 -- ---- the line
+-- a number, and the byte that ends it
+unfoldable pub ended : ℕ → ℕ → List ℕ
+ended n end = render n ++ (end ∷ [])
+
 -- the letter of a figure
 unfoldable pub letterOf : Figure → ℕ
 letterOf f = cond (f .estimated) estimate given
 
 -- a figure, and the space after it
-unfoldable pub spaced : Figure → List ℕ
-spaced f = render (f .value) ++ (space ∷ [])
+abbrev pub spaced : Figure → List ℕ
+spaced f = ended (f .value) space
 
 -- the letters of the five columns, and the LF
 unfoldable pub letters : Completed → List ℕ
@@ -46,34 +47,18 @@ letters c = letterOf (c .dip) ∷ letterOf (c .w) ∷ letterOf (c .ztor) ∷ let
 
 -- "ok", the figures dip, W, ZTOR, RRUP and Z2.5, and their letters
 unfoldable pub okLine : Completed → List ℕ
-unfolding ascii spaced letters
+unfolding ascii ended letters
 okLine c = ascii "ok " ++ spaced (c .dip) ++ spaced (c .w) ++ spaced (c .ztor) ++ spaced (c .rrup) ++ spaced (c .z25) ++ letters c
 
 -- "no" and the refusal's number
 unfoldable pub noLine : ℕ → List ℕ
-unfolding ascii
-noLine n = ascii "no " ++ render n ++ (lf ∷ [])
+unfolding ascii ended
+noLine n = ascii "no " ++ ended n lf
 
 unfoldable pub completionLine : Completion → List ℕ
 unfolding okLine noLine
 completionLine (C.Done c) = okLine c
 completionLine (C.Refused n) = noLine n
-
--- ---- from a line to its answer
--- refusal 14 for a malformed line
-unfoldable pub replyOf : Line → Completion
-unfolding completionOf
-replyOf (L.Is r) = completionOf r
-replyOf L.Malformed = C.Refused 14
-
--- from the bytes of a line, its LF not among them, to the bytes of its answer line
-unfoldable pub answerTo : List ℕ → List ℕ
-unfolding completionLine replyOf lineOf
-answerTo s = completionLine (replyOf (lineOf s))
-
--- no answer to a line is longer, its LF counted
-abbrev pub longestAnswer : ℕ
-longestAnswer = 38
 
 -- ---- lent bytes
 -- the answer of a writer that is lent n bytes for the line s: refusal 16 if s is longer

@@ -1,22 +1,33 @@
-// From the bytes of a request line to the bytes of its answer line: read, completed and written, one
-// line a call.
+// From the bytes of a request line to the bytes of its answer: read, worked out and written, one line
+// a call, as the sheet that is asked for shows it.
+mod rows;
 mod write;
 
 use completion::Completion;
 use completion::complete;
+use prediction::predict;
+pub use rows::write_spectrum;
 use text::Line;
 use text::read_line;
-use write::write_no;
+pub use write::write_no;
 use write::write_ok;
-ghost use mathlib.Core.Path.{_≡_};
-ghost use Rattle.text.specs.Grammar.{lineOf};
-ghost use Rattle.answer.specs.Lines.{completionLine, replyOf, answerTo, LineWritten};
+ghost use Rattle.answer.specs.Lines.{completionLine, LineWritten};
+ghost use Rattle.answer.specs.Sheets.{answerTo};
+
+// The refusal of a line that cannot be read.
+pub const MALFORMED: u32 = 14;
 
 // What a line writer answers: how many bytes it wrote at the start of the lent ones, or the
 // refusal's number.
 pub enum Wrote {
     To(usize),
     Refused(u32),
+}
+
+// Which answers are asked for: the completed figures, or the rows of the 24 measures.
+pub enum Sheet {
+    Completion,
+    Prediction,
 }
 
 // The line of an answer. Its only refusal is 16, and then no byte of `out` has changed.
@@ -29,20 +40,16 @@ pub fn write_completion(out: &mut [u8], c: Completion) -> Wrote
     }
 }
 
-// The answer to a line without its LF: any bytes, of any length.
-pub fn reply_to(s: &[u8]) -> Completion
-    ensures { λ r. ⌜ r ≡ replyOf (lineOf (now (s .entry))) ⌝ }
+// The answer to a line without its LF: any bytes, of any length. Its only refusal is 16, and then no
+// byte of `out` has changed.
+pub fn answer_line(sheet: Sheet, s: &[u8], out: &mut [u8]) -> Wrote
+    ensures { λ r. ⌜ LineWritten (now (out .entry)) (answerTo sheet (now (s .entry))) r (now (out .exit)) ⌝ }
 {
-    match read_line(s) {
-        Line::Is(r) => complete(r),
-        Line::Malformed => Completion::Refused(14),
+    let Line::Is(r) = read_line(s) else {
+        return write_no(out, MALFORMED);
+    };
+    match sheet {
+        Sheet::Completion => write_completion(out, complete(r)),
+        Sheet::Prediction => write_spectrum(out, predict(r)),
     }
-}
-
-// The answer line to a line without its LF. Its only refusal is 16, and then no byte of `out` has
-// changed.
-pub fn answer_line(s: &[u8], out: &mut [u8]) -> Wrote
-    ensures { λ r. ⌜ LineWritten (now (out .entry)) (answerTo (now (s .entry))) r (now (out .exit)) ⌝ }
-{
-    write_completion(out, reply_to(s))
 }

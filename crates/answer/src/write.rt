@@ -10,10 +10,10 @@ ghost use mathlib.Core.Path.{_≡_};
 ghost use Prim.Native.Nat.{_+_, _≤_};
 ghost use lib.ListN.{length};
 ghost use Rattle.text.specs.Render.{Written};
-ghost use Rattle.answer.specs.Lines.{letterOf, spaced, letters, okLine, noLine, LineWritten};
+ghost use Rattle.answer.specs.Lines.{ended, letterOf, letters, okLine, noLine, LineWritten};
 
 // The refusal of a line that is longer than the lent bytes.
-const TOO_LONG: u32 = 16;
+pub const TOO_LONG: u32 = 16;
 
 // A text.
 fn put_text(out: &mut [u8], at: usize, s: &[u8]) -> usize
@@ -28,13 +28,13 @@ fn put_text(out: &mut [u8], at: usize, s: &[u8]) -> usize
     at + i
 }
 
-// A figure and a space.
-fn put_figure(out: &mut [u8], at: usize, f: Figure) -> usize
-    requires { ⌜ at + length (spaced f) ≤ length (now out) ⌝ }
-    ensures { λ r. ⌜ Written (now (out .entry)) at (spaced f) r (now (out .exit)) ⌝ }
+// A number and the byte that ends it.
+pub fn put_ended(out: &mut [u8], at: usize, n: u64, end: u8) -> usize
+    requires { ⌜ at + length (ended n end) ≤ length (now out) ⌝ }
+    ensures { λ r. ⌜ Written (now (out .entry)) at (ended n end) r (now (out .exit)) ⌝ }
 {
-    let p = put_number(out, at, f.value);
-    put_byte(out, p, b' ')
+    let p = put_number(out, at, n);
+    put_byte(out, p, end)
 }
 
 // The letter of a figure.
@@ -76,11 +76,11 @@ fn put_ok(out: &mut [u8], c: Completed) -> usize
     let rrup = c.rrup;
     let z25 = c.z25;
     let p0 = put_text(out, 0, b"ok ");
-    let p1 = put_figure(out, p0, dip);
-    let p2 = put_figure(out, p1, w);
-    let p3 = put_figure(out, p2, ztor);
-    let p4 = put_figure(out, p3, rrup);
-    let p5 = put_figure(out, p4, z25);
+    let p1 = put_ended(out, p0, dip.value, b' ');
+    let p2 = put_ended(out, p1, w.value, b' ');
+    let p3 = put_ended(out, p2, ztor.value, b' ');
+    let p4 = put_ended(out, p3, rrup.value, b' ');
+    let p5 = put_ended(out, p4, z25.value, b' ');
     put_letters(out, p5, c)
 }
 
@@ -90,8 +90,7 @@ fn put_no(out: &mut [u8], n: u32) -> usize
     ensures { λ r. ⌜ Written (now (out .entry)) 0 (noLine n) r (now (out .exit)) ⌝ }
 {
     let p0 = put_text(out, 0, b"no ");
-    let p1 = put_number(out, p0, n as u64);
-    put_byte(out, p1, b'\n')
+    put_ended(out, p0, n as u64, b'\n')
 }
 
 // How many bytes a completed request's line has: 14 beside its digits.

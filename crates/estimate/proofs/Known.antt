@@ -1,18 +1,9 @@
--- Values of the rules: document 01's examples, and the jump of equation 23 at Vs30 500. Assumes nothing.
+-- Equation 23 joins at Vs30 180 and jumps at 500. Assumes nothing.
 use Prim.Native.Nat.{_/_, _<_}
 use mathlib.Core.Path.{_≡_, refl}
 use lib.Dec.{lit<}
 use Rattle.exact.specs.Exact.{E30}
-use Rattle.estimate.specs.Rules.{basinFromZ15, basinFromZ10, basinE}
-
-example-7 : basinFromZ15 6045 ≡ 9999
-example-7 = refl
-
-example-8 : basinFromZ15 6046 ≡ 10001
-example-8 = refl
-
-example-9 : basinFromZ10 1000 ≡ 4114
-example-9 = refl
+use Rattle.estimate.specs.Rules.{basinE}
 
 -- the first two rules of equation 23 join at 180
 joined : basinE 179 ≡ basinE 180

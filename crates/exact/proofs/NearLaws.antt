@@ -2,10 +2,10 @@
 use Prim.Native.Nat.{ℕ, _+_, _*_, _≤_}
 use mathlib.Core.Path.{_≡_}
 use native.Mathlib.Omega.{arith}
-use native.Mathlib.Nat.{mul-le-mul-right, add-mul, mul-zero}
+use native.Mathlib.Nat.{mul-le-mul-right, add-mul}
 use lib.IntN.{ℤ, pos, natAbs, _-ℤ_, _*ℤ_}
 use Rattle.exact.specs.Near.{up, dn, NearZ, Within}
-use Rattle.exact.proofs.Signed.{by-sign, abs-parts, sub-is, mul-up, mul-dn}
+use Rattle.exact.proofs.Signed.{by-sign, abs-parts, sub-is, scaled-up, scaled-dn}
 
 -- ---- the relations say what their names say
 pub within→ : (e : ℕ) (a b : ℤ) → Within e a b → natAbs (a -ℤ b) ≤ e
@@ -20,25 +20,19 @@ within← e a b h =
     (λ z. record { low = omega (arith, sub-is a b, abs-parts (a -ℤ b)); high = omega (arith, sub-is a b, abs-parts (a -ℤ b)) })
     (λ z. record { low = omega (arith, sub-is a b, abs-parts (a -ℤ b)); high = omega (arith, sub-is a b, abs-parts (a -ℤ b)) })
 
-scaled-up : (K : ℕ) (a : ℤ) → up (a *ℤ pos K) ≡ up a * K
-scaled-up K a = omega (arith, mul-up a (pos K), mul-zero (dn a))
-
-scaled-dn : (K : ℕ) (a : ℤ) → dn (a *ℤ pos K) ≡ dn a * K
-scaled-dn K a = omega (arith, mul-dn a (pos K), mul-zero (up a))
-
 -- a coarse number near a fine one is, brought to the fine scale, within as many fine units of it
 pub near→within : (K e : ℕ) (a b : ℤ) → NearZ K e a b → Within (e * K) (a *ℤ pos K) b
 near→within K e a b n =
     record {
-      low = omega (arith, scaled-up K a, scaled-dn K a, n .low);
-      high = omega (arith, scaled-up K a, scaled-dn K a, n .high);
+      low = omega (arith, scaled-up a K, scaled-dn a K, n .low);
+      high = omega (arith, scaled-up a K, scaled-dn a K, n .high);
     }
 
 pub within→near : (K e : ℕ) (a b : ℤ) → Within (e * K) (a *ℤ pos K) b → NearZ K e a b
 within→near K e a b w =
     record {
-      low = omega (arith, scaled-up K a, scaled-dn K a, w .low);
-      high = omega (arith, scaled-up K a, scaled-dn K a, w .high);
+      low = omega (arith, scaled-up a K, scaled-dn a K, w .low);
+      high = omega (arith, scaled-up a K, scaled-dn a K, w .high);
     }
 
 pub near→ : (K e : ℕ) (a b : ℤ) → NearZ K e a b → natAbs (a *ℤ pos K -ℤ b) ≤ e * K

@@ -163,6 +163,13 @@ mul-dn (pos a) (negsuc b) = neg-dn (pos (a * suc b)) ∙ omega (arith, zero-mul 
 mul-dn (negsuc a) (pos b) = neg-dn (pos (suc a * b)) ∙ omega (arith, zero-mul 0)
 mul-dn (negsuc a) (negsuc b) = omega (arith, mul-zero (suc a), zero-mul (suc b))
 
+-- the parts of a multiple by a number without a sign
+pub scaled-up : (a : ℤ) (K : ℕ) → up (a *ℤ pos K) ≡ up a * K
+scaled-up a K = omega (arith, mul-up a (pos K), mul-zero (dn a))
+
+pub scaled-dn : (a : ℤ) (K : ℕ) → dn (a *ℤ pos K) ≡ dn a * K
+scaled-dn a K = omega (arith, mul-dn a (pos K), mul-zero (up a))
+
 pub mul-abs : (a b : ℤ) → natAbs (a *ℤ b) ≡ natAbs a * natAbs b
 mul-abs (pos a) (pos b) = refl
 mul-abs (pos a) (negsuc b) = neg-abs (pos (a * suc b))

@@ -11,10 +11,12 @@ use lib.ListN.{length, take, replicate, length-replicate}
 use lib.Seq.{length-take-le}
 use Rattle.text.specs.Grammar.{longest}
 use Rattle.text.proofs.FieldLaws.{too-long}
-use Rattle.completion.specs.declared.Completion.the-variants as C
-use Rattle.answer.specs.Lines.{noLine, completionLine, replyOf, answerTo}
+use Rattle.answer.specs.declared.Sheet.{Sheet}
+use Rattle.answer.specs.Lines.{noLine}
+use Rattle.answer.specs.Sheets.{answerTo}
+use Rattle.answer.proofs.SheetLaws.{malformed-line}
 use Rattle.lists.specs.declared.Reader.{Reader}
-use Rattle.lists.specs.Whole.{answersFrom}
+use Rattle.lists.specs.Whole.{ending}
 use Rattle.lists.specs.Parts.{heldLine, lineIn, closing}
 
 module _ (held : List ℕ) (count : ℕ) where
@@ -27,19 +29,17 @@ module _ (held : List ℕ) (count : ℕ) where
   held-whole h = rw (le-ltb longest count h)
 
 -- a line too long gets 14
-pub over-answer : (s : List ℕ) → longest < length s → answerTo s ≡ noLine 14
-unfolding answerTo replyOf completionLine
-over-answer s h = rw (too-long s h)
+pub over-answer : (sheet : Sheet) (s : List ℕ) → longest < length s → answerTo sheet s ≡ noLine 14
+over-answer sheet s h = malformed-line sheet s (too-long s h)
 
-pub over-held : (held : List ℕ) (count : ℕ) → longest < count → answerTo (heldLine held count) ≡ completionLine (C.Refused 14)
-unfolding completionLine
-over-held held count h =
-    ap answerTo (held-over held count h)
-    ∙ over-answer (replicate (longest + 1) 0) (omega (arith, length-replicate {A = ℕ} (longest + 1) 0))
+pub over-held : (sheet : Sheet) (held : List ℕ) (count : ℕ) → longest < count → answerTo sheet (heldLine held count) ≡ noLine 14
+over-held sheet held count h =
+    ap (answerTo sheet) (held-over held count h)
+    ∙ over-answer sheet (replicate (longest + 1) 0) (omega (arith, length-replicate {A = ℕ} (longest + 1) 0))
 
 -- ---- at the end of a list
 pub closing-none : (r : Reader) → r .count ≡ 0 → closing r ≡ []
-unfolding closing answersFrom
+unfolding closing ending
 closing-none r e = rw (ap length (held-whole (r .held) (r .count) (omega arith)), e)
 
 -- a line has bytes
@@ -52,6 +52,6 @@ some-held r l h = go (ltb longest (r .count)) refl
         let k = ltb-false longest (r .count) e in
         omega (arith, ap length (held-whole (r .held) (r .count) k), length-take-le (r .count) (r .held) (omega arith))
 
-pub closing-some : (r : Reader) → length (r .held) ≡ longest → 0 < r .count → closing r ≡ completionLine (C.Refused 14)
-unfolding closing answersFrom completionLine
+pub closing-some : (r : Reader) → length (r .held) ≡ longest → 0 < r .count → closing r ≡ noLine 14
+unfolding closing ending
 closing-some r l h = rw (ne-eqb (length (lineIn r)) 0 (λ e. omega (arith, some-held r l h)))

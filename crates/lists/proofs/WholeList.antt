@@ -1,4 +1,4 @@
--- A list read in parts, cut anywhere, gets the answer lines of the whole: what is owed for a part and whatever follows it is what was
+-- A list read in parts, cut anywhere, gets the answers of the whole: what is owed for a part and whatever follows it is what was
 -- written, and what is owed for the bytes left and what follows.
 -- Assumes nothing.
 use Prim.Native.Nat.{ℕ, _+_, _≤_, _<_}
@@ -12,7 +12,9 @@ use lib.Dec.{ltb, eqb}
 use lib.ListN.{length, set, length-replicate, length-append, length-set}
 use lib.Seq.{take-suc-set, length-take-le}
 use Rattle.text.specs.Grammar.{longest}
-use Rattle.answer.specs.Lines.{lf, answerTo}
+use Rattle.answer.specs.declared.Sheet.{Sheet}
+use Rattle.answer.specs.Lines.{lf}
+use Rattle.answer.specs.Sheets.{answerTo}
 use Rattle.lists.specs.declared.Reader.{Reader}
 use Rattle.lists.specs.Whole.{answersFrom, answersTo}
 use Rattle.lists.specs.Parts.{lineIn, newReader, fresh, grown, closing, Stand, readFrom}
@@ -20,14 +22,14 @@ use Rattle.lists.proofs.HeldLaws.{held-over, held-whole, over-answer}
 use Rattle.lists.proofs.PartLaws.{grown-held, grown-over}
 
 -- ---- lines too long are all alike
-pub over-alike : (a b s : List ℕ) → longest < length a → longest < length b → answersFrom a s ≡ answersFrom b s
+pub over-alike : (sheet : Sheet) (a b s : List ℕ) → longest < length a → longest < length b → answersFrom sheet a s ≡ answersFrom sheet b s
 unfolding answersFrom
-over-alike a b [] h k = rw (ne-eqb (length a) 0 (λ e. omega arith), ne-eqb (length b) 0 (λ e. omega arith))
-over-alike a b (c ∷ cs) h k =
+over-alike sheet a b [] h k = rw (ne-eqb (length a) 0 (λ e. omega arith), ne-eqb (length b) 0 (λ e. omega arith))
+over-alike sheet a b (c ∷ cs) h k =
     rw (
-      over-answer a h,
-      over-answer b k,
-      over-alike (a ++ (c ∷ [])) (b ++ (c ∷ [])) cs (omega (arith, length-append a (c ∷ []))) (omega (arith, length-append b (c ∷ []))),
+      over-answer sheet a h,
+      over-answer sheet b k,
+      over-alike sheet (a ++ (c ∷ [])) (b ++ (c ∷ [])) cs (omega (arith, length-append a (c ∷ []))) (omega (arith, length-append b (c ∷ []))),
     )
 
 -- ---- one byte more
@@ -60,72 +62,72 @@ module _ (r : Reader) (full : length (r .held) ≡ longest) (c : ℕ) where
           omega (arith, ap length (held-whole (r .held) (r .count) k), length-take-le (r .count) (r .held) (omega arith))
 
   -- what the reader with the byte is owed is what its line with the byte is
-  grown-alike : (s : List ℕ) → answersFrom (lineIn (grown r c)) s ≡ answersFrom (lineIn r ++ (c ∷ [])) s
-  grown-alike s = go (ltb (r .count) longest) refl
+  grown-alike : (sheet : Sheet) (s : List ℕ) → answersFrom sheet (lineIn (grown r c)) s ≡ answersFrom sheet (lineIn r ++ (c ∷ [])) s
+  grown-alike sheet s = go (ltb (r .count) longest) refl
     where
-      go : (t : Bool) → ltb (r .count) longest ≡ t → answersFrom (lineIn (grown r c)) s ≡ answersFrom (lineIn r ++ (c ∷ [])) s
-      go true e = ap (λ (l : List ℕ). answersFrom l s) (one-more (ltb-true (r .count) longest e))
+      go : (t : Bool) → ltb (r .count) longest ≡ t → answersFrom sheet (lineIn (grown r c)) s ≡ answersFrom sheet (lineIn r ++ (c ∷ [])) s
+      go true e = ap (λ (l : List ℕ). answersFrom sheet l s) (one-more (ltb-true (r .count) longest e))
       go false e =
           let h = ltb-false (r .count) longest e in
           let q = ap lineIn (grown-over r c h) ∙ held-over (r .held) (longest + 1) (omega arith) in
-          over-alike (lineIn (grown r c)) (lineIn r ++ (c ∷ [])) s
+          over-alike sheet (lineIn (grown r c)) (lineIn r ++ (c ∷ [])) s
           (omega (arith, ap length q, length-replicate {A = ℕ} (longest + 1) 0))
           (omega (arith, over-length h, length-append (lineIn r) (c ∷ [])))
 
 -- ---- a part
--- what a reader is owed that stands in a part, the bytes s after it: the text that it has written, and the answer lines to come
-abbrev pub owed : Stand → List ℕ → List ℕ
-owed p s = p .text ++ answersFrom (lineIn (p .reader)) (p .left ++ s)
+-- what a reader is owed that stands in a part, the bytes s after it: the text that it has written, and the answers to come
+abbrev pub owed : Sheet → Stand → List ℕ → List ℕ
+owed sheet p s = p .text ++ answersFrom sheet (lineIn (p .reader)) (p .left ++ s)
 
 no-line : (r : Reader) → lineIn (fresh r) ≡ []
 no-line r = held-whole (r .held) 0 (omega arith)
 
-module _ (room : ℕ) (s : List ℕ) where
+module _ (sheet : Sheet) (room : ℕ) (s : List ℕ) where
   -- by its first byte
   module _ (r : Reader) (full : length (r .held) ≡ longest) (text : List ℕ) (c : ℕ) (cs : List ℕ) where
     abbrev line : List ℕ
-    line = answerTo (lineIn r)
+    line = answerTo sheet (lineIn r)
 
     step :
         (a b : Bool) → eqb c lf ≡ a
-        → owed (record { reader = fresh r; text = text ++ line; left = cs }) s ≡ owed (readFrom room (fresh r) (text ++ line) cs) s
-        → owed (record { reader = grown r c; text = text; left = cs }) s ≡ owed (readFrom room (grown r c) text cs) s
-        → text ++ cond a (line ++ answersFrom [] (cs ++ s)) (answersFrom (lineIn r ++ (c ∷ [])) (cs ++ s))
-        ≡ owed
-        (cond a (cond b (record { reader = r; text = text; left = c ∷ cs }) (readFrom room (fresh r) (text ++ line) cs)) (readFrom room (grown r c) text cs))
+        → owed sheet (record { reader = fresh r; text = text ++ line; left = cs }) s ≡ owed sheet (readFrom sheet room (fresh r) (text ++ line) cs) s
+        → owed sheet (record { reader = grown r c; text = text; left = cs }) s ≡ owed sheet (readFrom sheet room (grown r c) text cs) s
+        → text ++ cond a (line ++ answersFrom sheet [] (cs ++ s)) (answersFrom sheet (lineIn r ++ (c ∷ [])) (cs ++ s))
+        ≡ owed sheet
+        (cond a (cond b (record { reader = r; text = text; left = c ∷ cs }) (readFrom sheet room (fresh r) (text ++ line) cs)) (readFrom sheet room (grown r c) text cs))
         s
     unfolding answersFrom
     step true true e f g = rw e
-    step true false e f g = sym (append-assoc text line (answersFrom [] (cs ++ s))) ∙ rw (← no-line r) f
-    step false b e f g = ap (λ (l : List ℕ). text ++ l) (sym (grown-alike r full c (cs ++ s))) ∙ g
+    step true false e f g = sym (append-assoc text line (answersFrom sheet [] (cs ++ s))) ∙ rw (← no-line r) f
+    step false b e f g = ap (λ (l : List ℕ). text ++ l) (sym (grown-alike r full c sheet (cs ++ s))) ∙ g
 
   -- the same once the part is read
   pub part-is :
       (r : Reader) (text part : List ℕ) → length (r .held) ≡ longest
-      → owed (record { reader = r; text = text; left = part }) s ≡ owed (readFrom room r text part) s
+      → owed sheet (record { reader = r; text = text; left = part }) s ≡ owed sheet (readFrom sheet room r text part) s
   unfolding readFrom answersFrom
   part-is r text [] h = refl
   part-is r text (c ∷ cs) h =
-      step r h text c cs (eqb c lf) (ltb room (length (text ++ answerTo (lineIn r)))) refl
-      (part-is (fresh r) (text ++ answerTo (lineIn r)) cs h)
+      step r h text c cs (eqb c lf) (ltb room (length (text ++ answerTo sheet (lineIn r)))) refl
+      (part-is (fresh r) (text ++ answerTo sheet (lineIn r)) cs h)
       (part-is (grown r c) text cs (grown-full r h c))
 
   -- and the array keeps its length
-  pub part-full : (r : Reader) (text part : List ℕ) → length (r .held) ≡ longest → length (readFrom room r text part .reader .held) ≡ longest
+  pub part-full : (r : Reader) (text part : List ℕ) → length (r .held) ≡ longest → length (readFrom sheet room r text part .reader .held) ≡ longest
   unfolding readFrom
   part-full r text [] h = h
   part-full r text (c ∷ cs) h =
-      go (eqb c lf) (ltb room (length (text ++ answerTo (lineIn r))))
-      (part-full (fresh r) (text ++ answerTo (lineIn r)) cs h) (part-full (grown r c) text cs (grown-full r h c))
+      go (eqb c lf) (ltb room (length (text ++ answerTo sheet (lineIn r))))
+      (part-full (fresh r) (text ++ answerTo sheet (lineIn r)) cs h) (part-full (grown r c) text cs (grown-full r h c))
     where
       go :
           (a b : Bool)
-          → length (readFrom room (fresh r) (text ++ answerTo (lineIn r)) cs .reader .held) ≡ longest
-          → length (readFrom room (grown r c) text cs .reader .held) ≡ longest
+          → length (readFrom sheet room (fresh r) (text ++ answerTo sheet (lineIn r)) cs .reader .held) ≡ longest
+          → length (readFrom sheet room (grown r c) text cs .reader .held) ≡ longest
           → length
           (cond a
-          (cond b (record { reader = r; text = text; left = c ∷ cs }) (readFrom room (fresh r) (text ++ answerTo (lineIn r)) cs))
-          (readFrom room (grown r c) text cs) .reader .held)
+          (cond b (record { reader = r; text = text; left = c ∷ cs }) (readFrom sheet room (fresh r) (text ++ answerTo sheet (lineIn r)) cs))
+          (readFrom sheet room (grown r c) text cs) .reader .held)
           ≡ longest
       go true true f g = h
       go true false f g = f
@@ -133,22 +135,22 @@ module _ (room : ℕ) (s : List ℕ) where
 
 -- ---- a whole list
 -- the texts that a reader writes for a list offered in parts, the bytes left of each offered again with what follows, and at the close
-pub data Answered : Reader → List ℕ → List ℕ → Type 0 where
-  closed : (r : Reader) → Answered r [] (closing r)
+pub data Answered (sheet : Sheet) : Reader → List ℕ → List ℕ → Type 0 where
+  closed : (r : Reader) → Answered sheet r [] (closing r)
   offered :
       (room : ℕ) (r : Reader) (part s text : List ℕ)
-      → Answered (readFrom room r [] part .reader) (readFrom room r [] part .left ++ s) text
-      → Answered r (part ++ s) (readFrom room r [] part .text ++ text)
+      → Answered sheet (readFrom sheet room r [] part .reader) (readFrom sheet room r [] part .left ++ s) text
+      → Answered sheet r (part ++ s) (readFrom sheet room r [] part .text ++ text)
 
-answered-from : {r : Reader} {s text : List ℕ} → length (r .held) ≡ longest → Answered r s text → text ≡ answersFrom (lineIn r) s
-unfolding closing
-answered-from h (closed r) = refl
-answered-from h (offered room r part s text a) =
-    ap (λ (l : List ℕ). readFrom room r [] part .text ++ l) (answered-from (part-full room s r [] part h) a)
-    ∙ sym (part-is room s r [] part h)
+answered-from : {sheet : Sheet} {r : Reader} {s text : List ℕ} → length (r .held) ≡ longest → Answered sheet r s text → text ≡ answersFrom sheet (lineIn r) s
+unfolding closing answersFrom
+answered-from {sheet} h (closed r) = refl
+answered-from {sheet} h (offered room r part s text a) =
+    ap (λ (l : List ℕ). readFrom sheet room r [] part .text ++ l) (answered-from (part-full sheet room s r [] part h) a)
+    ∙ sym (part-is sheet room s r [] part h)
 
--- joined they are the answer lines to the list, however it was cut and whatever room was lent
-pub answered-whole : {s text : List ℕ} → Answered newReader s text → text ≡ answersTo s
+-- joined they are the answers to the list, however it was cut and whatever room was lent
+pub answered-whole : {sheet : Sheet} {s text : List ℕ} → Answered sheet newReader s text → text ≡ answersTo sheet s
 unfolding answersTo
-answered-whole {s} a =
-    answered-from (length-replicate {A = ℕ} longest 0) a ∙ ap (λ (l : List ℕ). answersFrom l s) (no-line newReader)
+answered-whole {sheet} {s} a =
+    answered-from (length-replicate {A = ℕ} longest 0) a ∙ ap (λ (l : List ℕ). answersFrom sheet l s) (no-line newReader)

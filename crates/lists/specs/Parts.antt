@@ -7,10 +7,12 @@ use lib.Dec.{eqb, ltb}
 use lib.ListN.{length, take, set, replicate}
 use Rattle.text.specs.Grammar.{longest}
 use Rattle.text.specs.Render.{put}
-use Rattle.answer.specs.Lines.{lf, answerTo}
+use Rattle.answer.specs.declared.Sheet.{Sheet}
+use Rattle.answer.specs.Lines.{lf}
+use Rattle.answer.specs.Sheets.{answerTo}
 use Rattle.lists.specs.declared.Reader.{Reader}
 use Rattle.lists.specs.declared.Taken.{Taken}
-use Rattle.lists.specs.Whole.{answersFrom}
+use Rattle.lists.specs.Whole.{ending}
 
 -- ---- the reader
 -- the bytes of an unfinished line of count bytes; one that is too long is not held, and 101 zeros stand for it
@@ -35,10 +37,10 @@ grown r c =
     (record { held = set (r .held) (r .count) c; count = r .count + 1 })
     (record { held = r .held; count = longest + 1 })
 
--- the answer line at the end of the list
+-- the answer at the end of the list
 unfoldable pub closing : Reader → List ℕ
-unfolding heldLine answersFrom
-closing r = answersFrom (lineIn r) []
+unfolding heldLine ending
+closing r = ending (lineIn r)
 
 -- ---- a part
 -- where a reader stands in a part: the text that it has written, and what is left of the part
@@ -48,19 +50,19 @@ pub record Stand : Type 0 where
   pub left : List ℕ
 
 -- it stops before the LF of a line with whose answer the text is longer than the room lent
-unfoldable pub readFrom : ℕ → Reader → List ℕ → List ℕ → Stand
+unfoldable pub readFrom : Sheet → ℕ → Reader → List ℕ → List ℕ → Stand
 unfolding heldLine grown answerTo
-readFrom room r text [] = record { reader = r; text = text; left = [] }
-readFrom room r text (c ∷ cs) =
+readFrom sheet room r text [] = record { reader = r; text = text; left = [] }
+readFrom sheet room r text (c ∷ cs) =
     cond (eqb c lf)
-    (cond (ltb room (length (text ++ answerTo (lineIn r))))
+    (cond (ltb room (length (text ++ answerTo sheet (lineIn r))))
     (record { reader = r; text = text; left = c ∷ cs })
-    (readFrom room (fresh r) (text ++ answerTo (lineIn r)) cs))
-    (readFrom room (grown r c) text cs)
+    (readFrom sheet room (fresh r) (text ++ answerTo sheet (lineIn r)) cs))
+    (readFrom sheet room (grown r c) text cs)
 
 -- what is promised of a part, the bytes b lent: the answer t, and the bytes b₁ that b became
-pub record PartTaken (r : Reader) (part b : List ℕ) (t : Taken) (b₁ : List ℕ) : Type 0 where
-  pub reader : t .reader ≡ readFrom (length b) r [] part .reader
-  pub took : t .took + length (readFrom (length b) r [] part .left) ≡ length part
-  pub wrote : t .wrote ≡ length (readFrom (length b) r [] part .text)
-  pub bytes : b₁ ≡ put b 0 (readFrom (length b) r [] part .text)
+pub record PartTaken (sheet : Sheet) (r : Reader) (part b : List ℕ) (t : Taken) (b₁ : List ℕ) : Type 0 where
+  pub reader : t .reader ≡ readFrom sheet (length b) r [] part .reader
+  pub took : t .took + length (readFrom sheet (length b) r [] part .left) ≡ length part
+  pub wrote : t .wrote ≡ length (readFrom sheet (length b) r [] part .text)
+  pub bytes : b₁ ≡ put b 0 (readFrom sheet (length b) r [] part .text)

@@ -1,20 +1,19 @@
-// A list of requests read in parts, cut at any place: the answer line of each whole line, as far as
-// lent bytes reach, and the unfinished line held from part to part.
+// A list of requests read in parts, cut at any place: the answer to each whole line, as far as lent
+// bytes reach, and the unfinished line held from part to part.
+use answer::MALFORMED;
+use answer::Sheet;
 use answer::Wrote;
 use answer::answer_line;
-use answer::write_completion;
-use completion::Completion;
+use answer::write_no;
 ghost use mathlib.Core.Path.{_≡_};
 ghost use lib.ListN.{length};
 ghost use Rattle.text.specs.Grammar.{longest};
-ghost use Rattle.answer.specs.Lines.{answerTo, LineWritten};
+ghost use Rattle.answer.specs.Lines.{LineWritten};
+ghost use Rattle.answer.specs.Sheets.{answerTo};
 ghost use Rattle.lists.specs.Parts.{heldLine, newReader, closing, PartTaken};
 
 // The most bytes that a line has before its LF.
 const LONGEST: usize = 100;
-
-// The refusal of a line that is too long or has no LF.
-const MALFORMED: u32 = 14;
 
 // An unfinished line: its first bytes, and how many it has. A count above LONGEST says that the line
 // is too long; its bytes are of no use then.
@@ -24,7 +23,7 @@ pub struct Reader {
 }
 
 // What was made of a part: the reader after it, how many of its bytes were taken, and how many bytes
-// of answer lines were written.
+// of answers were written.
 pub struct Taken {
     pub reader: Reader,
     pub took: usize,
@@ -42,21 +41,21 @@ pub fn new_reader() -> Reader
     }
 }
 
-// The answer line of the line held, into `out`; or refusal 16.
-fn answer_held(held: &[u8], count: usize, out: &mut [u8]) -> Wrote
+// The answer to the line held, into `out`; or refusal 16.
+fn answer_held(sheet: Sheet, held: &[u8], count: usize, out: &mut [u8]) -> Wrote
     requires { ⌜ length (now held) ≡ longest ⌝ }
-    ensures { λ r. ⌜ LineWritten (now (out .entry)) (answerTo (heldLine (now (held .entry)) count)) r (now (out .exit)) ⌝ }
+    ensures { λ r. ⌜ LineWritten (now (out .entry)) (answerTo sheet (heldLine (now (held .entry)) count)) r (now (out .exit)) ⌝ }
 {
     if LONGEST < count {
-        return write_completion(out, Completion::Refused(MALFORMED));
+        return write_no(out, MALFORMED);
     }
-    answer_line(&held[..count], out)
+    answer_line(sheet, &held[..count], out)
 }
 
 // Takes a part of a list. It stops before the LF of a line whose answer does not fit behind those
 // written, so that the caller offers the bytes not taken again with more room.
-pub fn take_part(r: Reader, part: &[u8], out: &mut [u8]) -> Taken
-    ensures { λ t. ⌜ PartTaken r (now (part .entry)) (now (out .entry)) t (now (out .exit)) ⌝ }
+pub fn take_part(sheet: Sheet, r: Reader, part: &[u8], out: &mut [u8]) -> Taken
+    ensures { λ t. ⌜ PartTaken sheet r (now (part .entry)) (now (out .entry)) t (now (out .exit)) ⌝ }
 {
     let mut held = r.held;
     let mut count = r.count;
@@ -65,7 +64,7 @@ pub fn take_part(r: Reader, part: &[u8], out: &mut [u8]) -> Taken
     while i < part.len() {
         let c = part[i];
         if c == b'\n' {
-            let Wrote::To(n) = answer_held(&held, count, &mut out[wrote..]) else {
+            let Wrote::To(n) = answer_held(sheet, &held, count, &mut out[wrote..]) else {
                 let reader = Reader {
                     held: held,
                     count: count,
@@ -108,5 +107,5 @@ pub fn close_list(r: Reader, out: &mut [u8]) -> Wrote
     if count == 0 {
         return Wrote::To(0);
     }
-    write_completion(out, Completion::Refused(MALFORMED))
+    write_no(out, MALFORMED)
 }

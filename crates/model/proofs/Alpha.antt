@@ -18,11 +18,11 @@ use Rattle.model.proofs.Curve.{Paired, curve-low-fixed, curve-low, curv
 use Rattle.model.specs.Fixed.{siteCFixed, alphaFixed, curveFixed}
 use Rattle.model.proofs.SiteNear.{RockNear, soft-rel, hard-rel, paired}
 use Rattle.model.specs.Equations.{alpha, siteC, times, curve}
-use Rattle.model.proofs.Between.{Between, scaled-up, scaled-dn, between-wide, share-nothing, between-share, between-turned}
+use Rattle.model.proofs.Between.{Between, between-wide, share-nothing, between-share, between-turned}
 use Rattle.model.proofs.Quotients.{rest-near, ratio-near}
 use Rattle.exact.proofs.Rounding.{mulE-whole, floor-whole}
 use Rattle.model.proofs.Fair.{Fair}
-use Rattle.exact.proofs.Signed.{sub-is, abs-parts, mul-up, mul-dn}
+use Rattle.exact.proofs.Signed.{sub-is, abs-parts, mul-up, mul-dn, scaled-up, scaled-dn}
 use lib.Signed.{shrZ}
 use Rattle.exact.proofs.NearLaws.{near-within, near-wide}
 use lib.Ieee.Nearest.{div-mono}

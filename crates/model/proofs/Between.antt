@@ -108,13 +108,6 @@ mul-nothing c =
 pub share-nothing : (D : ℕ) (c : ℤ) → shrZ (c *ℤ pos 0) D ≡ pos 0
 share-nothing D c = ap (λ (z : ℤ). shrZ z D) (mul-nothing c) ∙ ap pos (zero-div D)
 
--- the parts of a multiple by a number without a sign
-pub scaled-up : (a : ℤ) (K : ℕ) → up (a *ℤ pos K) ≡ up a * K
-scaled-up a K = omega (arith, mul-up a (pos K), mul-zero (dn a))
-
-pub scaled-dn : (a : ℤ) (K : ℕ) → dn (a *ℤ pos K) ≡ dn a * K
-scaled-dn a K = omega (arith, mul-dn a (pos K), mul-zero (up a))
-
 -- the logarithm grows
 pub between-ln : (x y z : ℕ) → 0 < x → x ≤ y → y ≤ z → Between (lnE x) (lnE z) (lnE y)
 between-ln x y z hx h k = record { low = lnE-mono x y hx h; high = lnE-mono y z (omega arith) k }

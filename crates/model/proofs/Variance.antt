@@ -19,11 +19,11 @@ use Rattle.tables.specs.declared.Deviations.{Deviations}
 use Rattle.tables.specs.Tables.{table3, deviationsAt}
 use Rattle.model.specs.Fixed.{atBaseFixed, crossFixed, intraVarianceFixed}
 use Rattle.model.specs.Equations.{atBase, times, PGA, E24, intraVariance}
-use Rattle.model.proofs.Between.{Between, between-wide, near-between, share-nothing, between-dn, between-share, between-up, scaled-up, scaled-dn}
+use Rattle.model.proofs.Between.{Between, between-wide, near-between, share-nothing, between-dn, between-share, between-up}
 use Rattle.model.proofs.Fair.{Spread}
 use Rattle.model.proofs.Alpha.{alphaLow}
 use Rattle.exact.proofs.NearLaws.{near-wide, near-within}
-use Rattle.exact.proofs.Signed.{abs-parts, by-sign, add-parts, *ℤ-+ℤ, mul-up, mul-dn, mul-abs-le}
+use Rattle.exact.proofs.Signed.{abs-parts, by-sign, add-parts, *ℤ-+ℤ, mul-up, mul-dn, mul-abs-le, scaled-up, scaled-dn}
 use Rattle.model.proofs.NearSums.{near-back, shareErr, near-share, near-prod, near-add, near-exact}
 use Rattle.reckon.proofs.SignedLaws.{mulDiv-whole}
 use Rattle.exact.proofs.Rounding.{mulE-whole, floor-whole}

@@ -72,3 +72,9 @@ pub not-below-zero : (z : ℤ) → ltZ z (pos 0) ≡ false → renderSigned z �
 unfolding renderSigned
 not-below-zero (pos n) e = refl
 not-below-zero (negsuc n) e = absurd (omega (arith, nlt-parts (negsuc n) (pos 0) e))
+
+-- and one byte more for a minus sign
+pub length-signed : (k : ℕ) (z : ℤ) → natAbs z < 10 ^ suc k → length (renderSigned z) ≤ suc (suc k)
+unfolding renderSigned
+length-signed k (pos n) h = omega (arith, length-render k n h)
+length-signed k (negsuc n) h = omega (arith, length-render k (suc n) h)

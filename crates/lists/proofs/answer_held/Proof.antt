@@ -8,8 +8,8 @@ use Rattle.lists.proofs.HeldLaws.{held-whole, over-held}
 use Rattle.lists.proofs.answer_held.Statement.{statement}
 use Rattle.lists.proofs.answer_held.Tie as tie
 
-write-completion-requires : tie.Need-write-completion-requires
-write-completion-requires c κs = search needs
+write-no-requires : tie.Need-write-no-requires
+write-no-requires c κs = search needs
 
 same-length : tie.Need-same-length
 same-length c = search needs
@@ -19,7 +19,7 @@ returns c =
     let w = c .before .before in
     let t = w .before .before in
     let s = t .before .before .before in
-    rw (over-held (now (s .args .held)) (s .args .count) (t .if1 .taken)) (w .write-completion .ensures)
+    rw (over-held (s .args .sheet) (now (s .args .held)) (s .args .count) (t .if1 .taken)) (w .write-no .ensures)
 
 slice-aggregate-answer-line : tie.Need-slice-aggregate-answer-line
 slice-aggregate-answer-line c =
@@ -43,7 +43,7 @@ pub answer-held-spec : {M : Type 1} → statement M
 answer-held-spec =
     tie.close
     (tie.spec
-    write-completion-requires
+    write-no-requires
     same-length
     returns
     slice-aggregate-answer-line

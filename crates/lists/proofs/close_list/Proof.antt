@@ -10,8 +10,8 @@ use Rattle.lists.proofs.close_list.Tie as tie
 returns : tie.Need-returns
 returns c = rw (closing-none (c .before .before .args .r) (c .if1 .taken)) (nothing-written (now (c .before .before .args .out)))
 
-write-completion-requires : tie.Need-write-completion-requires
-write-completion-requires c κs = search needs
+write-no-requires : tie.Need-write-no-requires
+write-no-requires c κs = search needs
 
 same-length : tie.Need-same-length
 same-length c = search needs
@@ -20,7 +20,7 @@ returns-2 : tie.Need-returns-2
 returns-2 c =
     let w = c .before .before in
     let s = w .before .before .before .before in
-    rw (closing-some (s .args .r) (search needs) (omega (arith, w .before .before .if1 .left))) (w .write-completion .ensures)
+    rw (closing-some (s .args .r) (search needs) (omega (arith, w .before .before .if1 .left))) (w .write-no .ensures)
 
 pub close-list-spec : {M : Type 1} → statement M
-close-list-spec = tie.close (tie.spec returns write-completion-requires same-length returns-2)
+close-list-spec = tie.close (tie.spec returns write-no-requires same-length returns-2)

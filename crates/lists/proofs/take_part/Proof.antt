@@ -1,12 +1,14 @@
 -- The loop's invariant is `Going`: the rest of the part makes of the reader and the text so far what the whole part makes of the reader
 -- at its start. The measure is how many bytes of the part are left. Assumes nothing.
-use Prim.Native.Nat.{_-_}
+use Prim.Native.Nat.{ℕ, _-_}
+use mathlib.Core.List.{List}
 use native.Mathlib.Omega.{arith}
 use borrow.Author.Needs.{needs}
 use denote.Ref.{now}
 use lib.ListN.{length, drop, length-drop}
 use Rattle.text.proofs.FigureLaws.{rest}
-use Rattle.answer.specs.Lines.{answerTo, LineWritten}
+use Rattle.answer.specs.Lines.{LineWritten}
+use Rattle.answer.specs.Sheets.{answerTo}
 use Rattle.answer.proofs.LineLaws.{to-fits}
 use Rattle.lists.specs.Parts.{heldLine}
 use Rattle.lists.proofs.PartLaws.{Going, begins, ends, byte-held, byte-over, line-answered, line-refused}
@@ -14,16 +16,16 @@ use Rattle.lists.proofs.take_part.Statement.{statement}
 use Rattle.lists.proofs.take_part.Tie as tie
 
 abbrev Inv-loop : tie.InvT-loop
-Inv-loop part out₀ held₀ count₀ wrote₀ i₀ out held count wrote i =
-    Going part out₀ (record { held = held₀; count = count₀ }) (record { held = held; count = count }) out wrote i
+Inv-loop sheet part out₀ held₀ count₀ wrote₀ i₀ out held count wrote i =
+    Going sheet part out₀ (record { held = held₀; count = count₀ }) (record { held = held; count = count }) out wrote i
 
 abbrev μ-loop : tie.MeasureT-loop
-μ-loop part out₀ held₀ count₀ wrote₀ i₀ out held count wrote i = length part - i
+μ-loop sheet part out₀ held₀ count₀ wrote₀ i₀ out held count wrote i = length part - i
 
 loop-holds : tie.Need-loop-holds Inv-loop μ-loop
 loop-holds c =
     let s = c .before .before .before in
-    begins (now (s .args .part)) (now (s .args .out)) (s .args .r) (search needs)
+    begins (s .args .sheet) (now (s .args .part)) (now (s .args .out)) (s .args .r) (search needs)
 
 shared-slice-read-c : tie.Need-shared-slice-read-c Inv-loop μ-loop
 shared-slice-read-c c = omega arith
@@ -52,11 +54,15 @@ enum-told c = search needs
 same-length : tie.Need-same-length Inv-loop μ-loop
 same-length c = search needs
 
+-- the answer to the line held
+abbrev line : tie.At-loop Inv-loop μ-loop → List ℕ
+line l = answerTo (l .before .before .before .before .args .sheet) (heldLine (l .loop .held) (l .loop .count))
+
 -- what the writer says of the bytes that are left
 answered :
     (c : tie.After-answer-held Inv-loop μ-loop)
     → let l = c .before .before .before .before .before .before in
-    LineWritten (drop (l .loop .wrote) (l .loop .out)) (answerTo (heldLine (l .loop .held) (l .loop .count))) (c .answer-held .result) (c .answer-held .last .1 .1 .0)
+    LineWritten (drop (l .loop .wrote) (l .loop .out)) (line l) (c .answer-held .result) (c .answer-held .last .1 .1 .1 .0)
 answered c =
     let l = c .before .before .before .before .before .before in
     rw (rest (l .loop .out) (l .loop .wrote)) at (c .answer-held .ensures)
@@ -76,8 +82,9 @@ add-wrote c =
     let l = w .before .before .before .before .before .before in
     omega (
       arith,
-      to-fits (length (drop (l .loop .wrote) (l .loop .out))) (answerTo (heldLine (l .loop .held) (l .loop .count))) (n .n .given .0 .0) (rw (n .n .given .1) at (answered w .answer)),
+      to-fits (length (drop (l .loop .wrote) (l .loop .out))) (line l) (n .n .given .0 .0) (rw (n .n .given .1) at (answered w .answer)),
       length-drop (l .loop .wrote) (l .loop .out),
+      l .before .before .before .before .good .1 .1 .1 .0,
     )
 
 add-i : tie.Need-add-i Inv-loop μ-loop

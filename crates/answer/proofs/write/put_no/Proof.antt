@@ -1,13 +1,13 @@
--- The word is put, the number, and the LF. Assumes nothing.
+-- The word is put, and then the number with the LF. Assumes nothing.
 use borrow.Author.Needs.{needs}
 use Prim.Native.Nat.{ℕ, _+_, _≤_}
-use mathlib.Core.List.{[], _∷_, _++_}
+use mathlib.Core.List.{_++_}
 use native.Mathlib.Omega.{arith}
 use denote.Ref.{now}
 use lib.ListN.{length}
-use Rattle.text.specs.Render.{ascii, render, Written}
+use Rattle.text.specs.Render.{ascii, Written}
 use Rattle.text.proofs.PutLaws.{shorter, room-after, then}
-use Rattle.answer.specs.Lines.{lf, noLine}
+use Rattle.answer.specs.Lines.{lf, ended, noLine}
 use Rattle.answer.proofs.write.put_no.Statement.{statement}
 use Rattle.answer.proofs.write.put_no.Tie as tie
 
@@ -16,15 +16,12 @@ slice-aggregate-put-text c = search needs
 
 -- there is room for each text that grows
 module _ (n m : ℕ) (h : length (noLine n) ≤ m) where
-  room-all : 0 + length (ascii "no " ++ render n ++ (lf ∷ [])) ≤ m
+  room-all : 0 + length (ascii "no " ++ ended n lf) ≤ m
   unfolding noLine
   room-all = omega arith
 
-  room-number : 0 + length (ascii "no " ++ render n) ≤ m
-  room-number = shorter 0 (ascii "no " ++ render n) (lf ∷ []) room-all
-
   room-word : 0 + length (ascii "no ") ≤ m
-  room-word = shorter 0 (ascii "no ") (render n) room-number
+  room-word = shorter 0 (ascii "no ") (ended n lf) room-all
 
 put-text-requires : tie.Need-put-text-requires
 unfolding ascii
@@ -35,27 +32,11 @@ word : (c : tie.After-put-text) → Written (now (c .before .before .before .bef
 unfolding ascii
 word c = c .put-text .ensures
 
-put-number-requires : tie.Need-put-number-requires
-put-number-requires c κs =
+put-ended-requires : tie.Need-put-ended-requires
+put-ended-requires c κs =
     let w = c .before .before .before in
     let s = w .before .before .before .before in
-    room-after (word w) (render (s .args .n)) (room-number (s .args .n) (length (now (s .args .out))) (s .pre))
-
--- and once the number is
-number :
-    (c : tie.After-put-number)
-    → let s = c .before .before .before .before .before .before .before .before in
-    Written (now (s .args .out)) 0 (ascii "no " ++ render (s .args .n)) (c .put-number .result) (c .put-number .last .0)
-number c =
-    let w = c .before .before .before .before in
-    let s = w .before .before .before .before in
-    then (word w) (render (s .args .n)) (room-number (s .args .n) (length (now (s .args .out))) (s .pre)) (c .put-number .ensures)
-
-put-byte-requires : tie.Need-put-byte-requires
-put-byte-requires c κs =
-    let w = c .before .before .before in
-    let s = w .before .before .before .before .before .before .before .before in
-    room-after (number w) (lf ∷ []) (room-all (s .args .n) (length (now (s .args .out))) (s .pre))
+    room-after (word w) (ended (s .args .n) lf) (room-all (s .args .n) (length (now (s .args .out))) (s .pre))
 
 same-length : tie.Need-same-length
 same-length c = search needs
@@ -65,16 +46,8 @@ unfolding noLine
 returns c =
     let v = c .before .before in
     let w = v .before .before .before .before in
-    let s = w .before .before .before .before .before .before .before .before in
-    then (number w) (lf ∷ []) (room-all (s .args .n) (length (now (s .args .out))) (s .pre)) (v .put-byte .ensures)
+    let s = w .before .before .before .before in
+    then (word w) (ended (s .args .n) lf) (room-all (s .args .n) (length (now (s .args .out))) (s .pre)) (v .put-ended .ensures)
 
 pub put-no-spec : {M : Type 1} → statement M
-put-no-spec =
-    tie.close
-    (tie.spec
-    slice-aggregate-put-text
-    put-text-requires
-    put-number-requires
-    put-byte-requires
-    same-length
-    returns)
+put-no-spec = tie.close (tie.spec slice-aggregate-put-text put-text-requires put-ended-requires same-length returns)

@@ -8,8 +8,8 @@ use lib.ListN.{length}
 use lib.Seq.{length-take-le}
 use Rattle.answer.proofs.LineLaws.{to-fits}
 use Rattle.lists.specs.Parts.{closing}
-use Rattle.complete.proofs.end_list.Statement.{statement}
-use Rattle.complete.proofs.end_list.Tie as tie
+use Rattle.filter.proofs.end_list.Statement.{statement}
+use Rattle.filter.proofs.end_list.Tie as tie
 
 close-list-requires : tie.Need-close-list-requires
 close-list-requires c κs = search needs

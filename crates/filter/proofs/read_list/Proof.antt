@@ -3,14 +3,14 @@
 use mathlib.Core.Path.{_≡_}
 use borrow.Author.Needs.{needs}
 use lib.ListN.{length}
-use Rattle.complete.proofs.read_list.Statement.{statement}
-use Rattle.complete.proofs.read_list.Tie as tie
+use Rattle.filter.proofs.read_list.Statement.{statement}
+use Rattle.filter.proofs.read_list.Tie as tie
 
 abbrev Inv-loop : tie.InvT-loop
-Inv-loop input₀ out₀ reader₀ turns₀ input out reader turns = (length input ≡ length input₀) × (length out ≡ length out₀)
+Inv-loop sheet input₀ out₀ reader₀ turns₀ input out reader turns = (length input ≡ length input₀) × (length out ≡ length out₀)
 
 abbrev μ-loop : tie.MeasureT-loop
-μ-loop input₀ out₀ reader₀ turns₀ input out reader turns = turns
+μ-loop sheet input₀ out₀ reader₀ turns₀ input out reader turns = turns
 
 new-reader-requires : tie.Need-new-reader-requires Inv-loop μ-loop
 new-reader-requires c κs = search needs

@@ -8,16 +8,16 @@ use borrow.Author.Needs.{needs}
 use denote.Ref.{now}
 use lib.ListN.{length, take, drop, length-drop}
 use lib.Seq.{length-take-le}
-use Rattle.answer.specs.Lines.{longestAnswer}
+use Rattle.answer.specs.Sheets.{longestAnswer}
 use Rattle.lists.proofs.Progress.{wrote-fits, took-fits, took-some}
-use Rattle.complete.proofs.answer_block.Statement.{statement}
-use Rattle.complete.proofs.answer_block.Tie as tie
+use Rattle.filter.proofs.answer_block.Statement.{statement}
+use Rattle.filter.proofs.answer_block.Tie as tie
 
 abbrev Inv-loop : tie.InvT-loop
-Inv-loop block out₀ reader₀ at₀ out reader at = (at ≤ length block) × (longestAnswer ≤ length out) × (length out ≡ length out₀)
+Inv-loop sheet block out₀ reader₀ at₀ out reader at = (at ≤ length block) × (longestAnswer sheet ≤ length out) × (length out ≡ length out₀)
 
 abbrev μ-loop : tie.MeasureT-loop
-μ-loop block out₀ reader₀ at₀ out reader at = length block - at
+μ-loop sheet block out₀ reader₀ at₀ out reader at = length block - at
 
 loop-holds : tie.Need-loop-holds Inv-loop μ-loop
 loop-holds c = search needs
@@ -62,12 +62,12 @@ add-at : tie.Need-add-at Inv-loop μ-loop
 add-at c = omega (arith, made (c .before .before .before))
 
 slice-reshare-prefix-put-out : tie.Need-slice-reshare-prefix-put-out Inv-loop μ-loop
-slice-reshare-prefix-put-out c = let w = c .before .before .before in omega (arith, made w, w .take-part .kept .1 .1 .0)
+slice-reshare-prefix-put-out c = let w = c .before .before .before in omega (arith, made w, w .take-part .kept .1 .1 .1 .0)
 
 slice-aggregate-put-out : tie.Need-slice-aggregate-put-out Inv-loop μ-loop
 slice-aggregate-put-out c =
     let w = c .before .before .before .before in
-    sym (length-take-le (w .take-part .result .wrote) (w .take-part .last .1 .1 .0) (omega (arith, made w, w .take-part .kept .1 .1 .0)))
+    sym (length-take-le (w .take-part .result .wrote) (w .take-part .last .1 .1 .1 .0) (omega (arith, made w, w .take-part .kept .1 .1 .1 .0)))
 
 put-out-requires : tie.Need-put-out-requires Inv-loop μ-loop
 put-out-requires c κs = search needs
@@ -82,7 +82,7 @@ loop-less : tie.Need-loop-less Inv-loop μ-loop
 loop-less c = omega (arith, made (c .before .before .before .before .before .before))
 
 loop-again : tie.Need-loop-again Inv-loop μ-loop
-loop-again c = let w = c .before .before .before .before .before .before in omega (arith, made w, w .take-part .kept .1 .1 .0)
+loop-again c = let w = c .before .before .before .before .before .before in omega (arith, made w, w .take-part .kept .1 .1 .1 .0)
 
 same-length-2 : tie.Need-same-length-2 Inv-loop μ-loop
 same-length-2 c = search needs

@@ -1,0 +1,27 @@
+-- What the answer to a line is, by what was read and by the sheet. Assumes nothing.
+use Prim.Native.Nat.{ℕ}
+use mathlib.Core.Path.{_≡_}
+use mathlib.Core.List.{List}
+use Rattle.request.specs.declared.Request.{Request}
+use Rattle.completion.specs.Answers.{completionOf}
+use Rattle.prediction.specs.Spectra.{spectrumOf}
+use Rattle.text.specs.declared.read.Line.the-variants as L
+use Rattle.text.specs.Grammar.{lineOf}
+use Rattle.answer.specs.declared.Sheet.{Sheet}
+use Rattle.answer.specs.declared.Sheet.the-variants as S
+use Rattle.answer.specs.Lines.{noLine, completionLine}
+use Rattle.answer.specs.RowLines.{spectrumLines}
+use Rattle.answer.specs.Sheets.{answerTo}
+
+pub malformed-line : (sheet : Sheet) (s : List ℕ) → lineOf s ≡ L.Malformed → answerTo sheet s ≡ noLine 14
+unfolding answerTo
+malformed-line sheet s e = rw e
+
+module _ (s : List ℕ) (r : Request) (e : lineOf s ≡ L.Is r) where
+  pub completion-lines : answerTo S.Completion s ≡ completionLine (completionOf r)
+  unfolding answerTo
+  completion-lines = rw e
+
+  pub prediction-lines : answerTo S.Prediction s ≡ spectrumLines (spectrumOf r)
+  unfolding answerTo
+  prediction-lines = rw e

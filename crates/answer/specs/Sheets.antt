@@ -1,0 +1,35 @@
+-- From a line to its answer, by the sheet that is asked for. Definitions only.
+use Prim.Native.Nat.{ℕ}
+use mathlib.Core.List.{List}
+use Rattle.request.specs.declared.Request.{Request}
+use Rattle.completion.specs.Answers.{completionOf}
+use Rattle.prediction.specs.Spectra.{spectrumOf}
+use Rattle.text.specs.declared.read.Line.{Line}
+use Rattle.text.specs.declared.read.Line.the-variants as L
+use Rattle.text.specs.Grammar.{lineOf}
+use Rattle.answer.specs.declared.Sheet.{Sheet}
+use Rattle.answer.specs.declared.Sheet.the-variants as S
+use Rattle.answer.specs.Lines.{noLine, completionLine}
+use Rattle.answer.specs.RowLines.{spectrumLines}
+
+-- the answer to a request
+unfoldable pub sheetOf : Sheet → Request → List ℕ
+unfolding completionLine completionOf spectrumLines
+sheetOf S.Completion r = completionLine (completionOf r)
+sheetOf S.Prediction r = spectrumLines (spectrumOf r)
+
+-- refusal 14 for a malformed line
+unfoldable pub replyOf : Sheet → Line → List ℕ
+unfolding sheetOf noLine
+replyOf sheet (L.Is r) = sheetOf sheet r
+replyOf sheet L.Malformed = noLine 14
+
+-- from the bytes of a line, its LF not among them, to the bytes of its answer
+unfoldable pub answerTo : Sheet → List ℕ → List ℕ
+unfolding replyOf lineOf
+answerTo sheet s = replyOf sheet (lineOf s)
+
+-- no answer to a line is longer, its LFs counted: a line of 38 bytes at most, or 24 of them
+abbrev pub longestAnswer : Sheet → ℕ
+longestAnswer S.Completion = 38
+longestAnswer S.Prediction = 912
