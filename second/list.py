@@ -1,10 +1,14 @@
 #!/usr/bin/env python3
-"""Writes the list that crates/complete/stdin is: document 01's three lines; each row of its refusal table on both sides of each end;
-each rule for a blank field; and malformed lines of every kind, the last of them without an LF.
+"""Writes the lists that the programs are tested on: document 01's three lines; each row of its refusal table on both sides of each end;
+each rule for a blank field; and malformed lines of every kind, the last of them without an LF. The predicting program's list is what
+the second program refuses of them: docs/DECISIONS.md says why it holds no other line.
 
-    second/list.py > crates/complete/stdin
+    python3 second/list.py complete > crates/complete/stdin
+    python3 second/list.py predict > crates/predict/stdin
 """
 import sys
+
+from programs import build, listed, run
 
 NAMES = "m rake vs30 dip w zhyp ztor rjb azimuth rrup z10 z15 z25".split()
 PLAIN = dict(zip(NAMES, "650 0 760 - 10000 - 3000 4000 30 - - - 2000".split()))
@@ -18,6 +22,7 @@ def line(**changes):
 
 
 def ends(name, *values, **others):
+    """A line for each value of one field."""
     for value in values:
         line(**{**others, name: value})
 
@@ -132,4 +137,7 @@ lines += [
     b"dip W ZTOR RRUP Z25 from",
     whole,
 ]
-sys.stdout.buffer.write(b"".join(l + b"\n" for l in lines) + whole)
+if sys.argv[1] == "predict":
+    answers = run([build(), "complete"], listed(lines)).split(b"\n")[1:-1]
+    lines = [l for l, said in zip(lines, answers) if said.startswith(b"no")]
+sys.stdout.buffer.write(listed(lines) + whole)

@@ -21,15 +21,16 @@ use site::alpha_of;
 use site::f_site;
 use site::soil_of;
 use tables::Coefficients;
-use tables::coefficients_at;
-use tables::deviations_at;
+use tables::Deviations;
+use tables::all_coefficients;
+use tables::all_deviations;
 use terms::Path;
 use terms::ln_sum;
 use terms::path_of;
 ghost use mathlib.Core.Path.{_≡_};
 ghost use Prim.Native.Nat.{ℕ, _<_};
 ghost use lib.ListN.{length, getD};
-ghost use Rattle.tables.specs.Tables.{coefficientsAt};
+ghost use Rattle.tables.specs.Tables.{coefficientsAt, deviationsAt};
 ghost use Rattle.model.specs.Accuracy.{InRange};
 ghost use Rattle.model.specs.Equations.{most};
 ghost use Rattle.model.specs.Fixed.{rowFixed, lnMedianFixed, noRow};
@@ -51,12 +52,19 @@ fn at_least_one(y: u64) -> u64
 }
 
 // The row of a measure, from what is shared.
-fn row_from(i: usize, c: Coefficients, x: Scenario, s: Shared, path: Path, soil: Soil) -> Row
-    requires { ⌜ (i < 24) × (c ≡ coefficientsAt i) × InRange x × (s ≡ sharedOf x) × (path ≡ pathOf (c .c6) x) × (soil ≡ soilOf (c .k1) x) ⌝ }
+fn row_from(
+    i: usize,
+    c: Coefficients,
+    d: Deviations,
+    x: Scenario,
+    s: Shared,
+    path: Path,
+    soil: Soil,
+) -> Row
+    requires { ⌜ (i < 24) × (c ≡ coefficientsAt i) × (d ≡ deviationsAt i) × InRange x × (s ≡ sharedOf x) × (path ≡ pathOf (c .c6) x) × (soil ≡ soilOf (c .k1) x) ⌝ }
     ensures { λ r. ⌜ r ≡ rowFixed i x ⌝ }
 {
     let l = ln_median(i, c, x, s, path, soil);
-    let d = deviations_at(i);
     let intra = intra_variance(d, alpha_of(c, x, soil), s.sigma);
     let total = intra + d.t * d.t * 1_000;
     let arbitrary = total + d.sC * d.sC * 1_000;
@@ -76,10 +84,14 @@ pub fn row_at(i: usize, x: Scenario) -> Row
     requires { ⌜ (i < 24) × InRange x ⌝ }
     ensures { λ r. ⌜ r ≡ rowFixed i x ⌝ }
 {
-    let rock = coefficients_at(PGA);
-    let s = shared_of(rock, x, path_of(rock, x));
-    let c = coefficients_at(i);
-    row_from(i, c, x, s, path_of(c, x), soil_of(c, x, s))
+    let table2 = all_coefficients();
+    let table3 = all_deviations();
+    let rock = table2[PGA];
+    let base = table3[PGA];
+    let s = shared_of(rock, base, x, path_of(rock, x));
+    let c = table2[i];
+    let d = table3[i];
+    row_from(i, c, d, x, s, path_of(c, x), soil_of(c, x, s))
 }
 
 // The path of a measure: the last one's, where that has the same c6.
@@ -119,18 +131,22 @@ pub fn rows_of(x: Scenario) -> [Row; 24]
         arbitrary: 0,
     };
     let mut rows = [none; 24];
-    let pga = coefficients_at(PGA);
+    let table2 = all_coefficients();
+    let table3 = all_deviations();
+    let pga = table2[PGA];
+    let base = table3[PGA];
     let mut path = path_of(pga, x);
-    let s = shared_of(pga, x, path);
+    let s = shared_of(pga, base, x, path);
     let mut soil = soil_of(pga, x, s);
-    rows[PGA] = row_from(PGA, pga, x, s, path, soil);
+    rows[PGA] = row_from(PGA, pga, base, x, s, path, soil);
     let mut k = 0usize;
     while k < 24 {
         if k != PGA {
-            let c = coefficients_at(k);
+            let c = table2[k];
+            let d = table3[k];
             path = next_path(path, c, x);
             soil = next_soil(soil, c, x, s);
-            rows[k] = row_from(k, c, x, s, path, soil);
+            rows[k] = row_from(k, c, d, x, s, path, soil);
         }
         k += 1;
     }

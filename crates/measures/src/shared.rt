@@ -10,10 +10,10 @@ use model::Scenario;
 use reckon::exp_fixed;
 use reckon::ln_fixed;
 use tables::Coefficients;
-use tables::deviations_at;
+use tables::Deviations;
 ghost use mathlib.Core.Path.{_≡_};
 ghost use Prim.Native.Nat.{_≤_};
-ghost use Rattle.tables.specs.Tables.{coefficientsAt};
+ghost use Rattle.tables.specs.Tables.{coefficientsAt, deviationsAt};
 ghost use Rattle.model.specs.Equations.{PGA};
 ghost use Rattle.model.specs.Accuracy.{InRange};
 ghost use Rattle.model.specs.Fixed.{wallFixed, deepFixed, rockPGAFixed, shareFixed};
@@ -53,9 +53,9 @@ fn rock_pga(c: Coefficients, x: Scenario, wall: u64, deep: u64, path: Path) -> u
     exp_fixed(ln_sum(c, x, wall, deep, path, f_site_linear(c, 1_100))) / 10
 }
 
-// All of them, from PGA's coefficients and path.
-pub fn shared_of(c: Coefficients, x: Scenario, path: Path) -> Shared
-    requires { ⌜ (c ≡ coefficientsAt PGA) × InRange x × (path ≡ pathOf (c .c6) x) ⌝ }
+// All of them, from PGA's rows of both tables and its path.
+pub fn shared_of(c: Coefficients, d: Deviations, x: Scenario, path: Path) -> Shared
+    requires { ⌜ (c ≡ coefficientsAt PGA) × (d ≡ deviationsAt PGA) × InRange x × (path ≡ pathOf (c .c6) x) ⌝ }
     ensures { λ r. ⌜ r ≡ sharedOf x ⌝ }
 {
     let wall = wall_of(x);
@@ -67,6 +67,6 @@ pub fn shared_of(c: Coefficients, x: Scenario, path: Path) -> Shared
         rock: rock,
         log: ln_fixed(rock + SITE_C),
         share: share_of(rock, SITE_C),
-        sigma: at_base(deviations_at(PGA).s),
+        sigma: at_base(d.s),
     }
 }

@@ -86,7 +86,7 @@ pub fn f_site(c: Coefficients, x: Scenario, soil: Soil) -> i64
     requires { ⌜ OfTable2 c × InRange x × (soil ≡ soilOf (c .k1) x) ⌝ }
     ensures { λ r. ⌜ r ≡ fSiteFixed c (x .vs30) (rockPGAFixed x) ⌝ }
 {
-    if x.vs30 < c.k1 {
+    if x.vs30 < soil.k1 {
         return mul_div(c.c10, soil.ratio, 1_000) + mul_div(c.k2, soil.gain, 1_000);
     }
     mul_div(linear_of(c), soil.ratio, 100_000)

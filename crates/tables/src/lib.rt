@@ -1,8 +1,7 @@
 // The numbers of the model: Tables 2 and 3 of Campbell and Bozorgnia 2008, constants of the program.
 // Every number is in thousandths, save k1, which is in m/s.
 ghost use mathlib.Core.Path.{_≡_};
-ghost use Prim.Native.Nat.{_<_};
-ghost use Rattle.tables.specs.Tables.{coefficientsAt, deviationsAt};
+ghost use Rattle.tables.specs.Tables.{table2, table3};
 
 mod table2;
 mod table3;
@@ -38,18 +37,16 @@ pub struct Deviations {
     pub rho: u64,
 }
 
-// The coefficients of measure i.
-pub fn coefficients_at(i: usize) -> Coefficients
-    requires { ⌜ i < 24 ⌝ }
-    ensures { λ r. ⌜ r ≡ coefficientsAt i ⌝ }
+// Table 2, a row a measure. Whoever needs several rows takes the table once: each call builds it anew.
+pub fn all_coefficients() -> [Coefficients; 24]
+    ensures { λ r. ⌜ r ≡ table2 ⌝ }
 {
-    table2::ROWS[i]
+    table2::ROWS
 }
 
-// The deviations and the correlation of measure i.
-pub fn deviations_at(i: usize) -> Deviations
-    requires { ⌜ i < 24 ⌝ }
-    ensures { λ r. ⌜ r ≡ deviationsAt i ⌝ }
+// Table 3, likewise.
+pub fn all_deviations() -> [Deviations; 24]
+    ensures { λ r. ⌜ r ≡ table3 ⌝ }
 {
-    table3::ROWS[i]
+    table3::ROWS
 }

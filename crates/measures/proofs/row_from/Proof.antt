@@ -61,107 +61,111 @@ steps i x h r =
     }
 
 at : (c : tie.Start) → Steps (c .args .i) (c .args .x)
-at c = steps (c .args .i) (c .args .x) (c .pre .0) (c .pre .2)
+at c = steps (c .args .i) (c .args .x) (c .pre .0) (c .pre .3)
 
 sigma-is : (c : tie.Start) → c .args .s .sigma ≡ atBaseFixed (deviationsAt PGA .s)
 unfolding sharedOf
-sigma-is c = ap (λ (s : Shared). s .sigma) (c .pre .3)
+sigma-is c = ap (λ (s : Shared). s .sigma) (c .pre .4)
 
 ln-median-requires : tie.Need-ln-median-requires
 ln-median-requires c κs = search needs
 
-deviations-at-requires : tie.Need-deviations-at-requires
-deviations-at-requires c κs = search needs
-
 alpha-of-requires : tie.Need-alpha-of-requires
 alpha-of-requires c κs =
-    let s = c .before .before in
-    (of-row (s .args .i) (s .args .c) (s .pre .0) (s .pre .1), s .pre .2, s .pre .5)
+    let s = c .before in
+    (of-row (s .args .i) (s .args .c) (s .pre .0) (s .pre .1), s .pre .3, s .pre .6)
 
 -- alpha, in the words of the definition of the variance
 alpha-is :
     (c : tie.After-alpha-of)
     → c .alpha-of .result
-    ≡ alphaFixed (coefficientsAt (c .before .before .before .args .i)) (c .before .before .before .args .x .vs30)
-    (rockPGAFixed (c .before .before .before .args .x))
+    ≡ alphaFixed (coefficientsAt (c .before .before .args .i)) (c .before .before .args .x .vs30)
+    (rockPGAFixed (c .before .before .args .x))
 alpha-is c =
-    let s = c .before .before .before in
+    let s = c .before .before in
     c .alpha-of .ensures ∙ ap (λ (r : Coefficients). alphaFixed r (s .args .x .vs30) (rockPGAFixed (s .args .x))) (s .pre .1)
 
 intra-variance-requires : tie.Need-intra-variance-requires
 intra-variance-requires c κs =
-    let s = c .before .before .before in
+    let s = c .before .before in
     let f = at s in
     simp (alpha-is c, toZ-ofZ (f .alpha-fits))
-    (record { i = s .args .i; below = s .pre .0; is = c .before .deviations-at .ensures }, f .alpha-small, sigma-is s)
+    (record { i = s .args .i; below = s .pre .0; is = s .pre .2 }, f .alpha-small, sigma-is s)
 
 intra-is :
     (c : tie.After-intra-variance)
-    → c .intra-variance .result ≡ varianceFixed (c .before .before .before .before .args .i) (c .before .before .before .before .args .x)
+    → c .intra-variance .result ≡ varianceFixed (c .before .before .before .args .i) (c .before .before .before .args .x)
 unfolding varianceFixed
 intra-is c =
     let a = c .before in
-    let s = a .before .before .before in
+    let s = a .before .before in
     let f = at s in
     (simp (alpha-is a, toZ-ofZ (f .alpha-fits)) at (c .intra-variance .ensures))
     ∙ ap
     (λ (d : Deviations). up (intraVarianceFixed d (alphaFixed (coefficientsAt (s .args .i)) (s .args .x .vs30) (rockPGAFixed (s .args .x)))))
-    (a .before .deviations-at .ensures)
+    (s .pre .2)
 
 mul-total : tie.Need-mul-total
 mul-total c =
     let a = c .before .before in
-    let f = at (a .before .before .before) in
-    rw (a .before .deviations-at .ensures) (record { fits = omega (arith, f .t2) })
+    let s = a .before .before in
+    let f = at s in
+    rw (s .pre .2) (record { fits = omega (arith, f .t2) })
 
 mul-total-2 : tie.Need-mul-total-2
 mul-total-2 c =
     let a = c .before .before in
-    let f = at (a .before .before .before) in
-    rw (a .before .deviations-at .ensures) (record { fits = omega (arith, f .t2) })
+    let s = a .before .before in
+    let f = at s in
+    rw (s .pre .2) (record { fits = omega (arith, f .t2) })
 
 add-total : tie.Need-add-total
 add-total c =
     let a = c .before .before in
-    let f = at (a .before .before .before) in
-    rw (intra-is (c .before), a .before .deviations-at .ensures) (record { fits = omega (arith, f .t2, f .variance-high) })
+    let s = a .before .before in
+    let f = at s in
+    rw (intra-is (c .before), s .pre .2) (record { fits = omega (arith, f .t2, f .variance-high) })
 
 mul-arbitrary : tie.Need-mul-arbitrary
 mul-arbitrary c =
     let a = c .before .before .before in
-    let f = at (a .before .before .before) in
-    rw (a .before .deviations-at .ensures) (record { fits = omega (arith, f .sC2) })
+    let s = a .before .before in
+    let f = at s in
+    rw (s .pre .2) (record { fits = omega (arith, f .sC2) })
 
 mul-arbitrary-2 : tie.Need-mul-arbitrary-2
 mul-arbitrary-2 c =
     let a = c .before .before .before in
-    let f = at (a .before .before .before) in
-    rw (a .before .deviations-at .ensures) (record { fits = omega (arith, f .sC2) })
+    let s = a .before .before in
+    let f = at s in
+    rw (s .pre .2) (record { fits = omega (arith, f .sC2) })
 
 add-arbitrary : tie.Need-add-arbitrary
 add-arbitrary c =
     let a = c .before .before .before in
-    let f = at (a .before .before .before) in
-    rw (intra-is (c .before .before), a .before .deviations-at .ensures)
+    let s = a .before .before in
+    let f = at s in
+    rw (intra-is (c .before .before), s .pre .2)
     (record { fits = omega (arith, f .t2, f .sC2, f .variance-high) })
 
 mul-inter : tie.Need-mul-inter
 mul-inter c =
     let a = c .before .before .before .before in
-    let f = at (a .before .before .before) in
-    rw (a .before .deviations-at .ensures) (record { fits = omega (arith, f .t-high) })
+    let s = a .before .before in
+    let f = at s in
+    rw (s .pre .2) (record { fits = omega (arith, f .t-high) })
 
 round-div-requires : tie.Need-round-div-requires
 round-div-requires c κs =
     let a = c .before .before .before .before in
-    let l = a .before .before in
+    let l = a .before in
     let f = at (l .before) in
     simp (l .ln-median .ensures, toZ-ofZ (f .ln-fits)) (omega (arith, f .ln-abs), lit≤ tt, lit≤ tt)
 
 exp-fixed-requires : tie.Need-exp-fixed-requires
 exp-fixed-requires c κs =
     let a = c .before .before .before .before .before in
-    let l = a .before .before in
+    let l = a .before in
     let f = at (l .before) in
     simp (l .ln-median .ensures, toZ-ofZ (f .ln-fits)) (le-trans (f .ln-high) (lit≤ tt), le-trans (f .ln-low) (lit≤ tt))
 
@@ -171,20 +175,22 @@ at-least-one-requires c κs = search needs
 sigma-of-requires : tie.Need-sigma-of-requires
 sigma-of-requires c κs =
     let v = c .before .before .before .before .before .before in
-    let f = at (v .before .before .before .before) in
+    let f = at (v .before .before .before) in
     rw (intra-is v) (le-trans (f .variance-high) (lit≤ tt))
 
 sigma-of-requires-2 : tie.Need-sigma-of-requires-2
 sigma-of-requires-2 c κs =
     let v = c .before .before .before .before .before .before .before in
-    let f = at (v .before .before .before .before) in
-    rw (intra-is v, v .before .before .deviations-at .ensures) (omega (arith, f .variance-high, f .t2))
+    let s = v .before .before .before in
+    let f = at s in
+    rw (intra-is v, s .pre .2) (omega (arith, f .variance-high, f .t2))
 
 sigma-of-requires-3 : tie.Need-sigma-of-requires-3
 sigma-of-requires-3 c κs =
     let v = c .before .before .before .before .before .before .before .before in
-    let f = at (v .before .before .before .before) in
-    rw (intra-is v, v .before .before .deviations-at .ensures) (omega (arith, f .variance-high, f .t2, f .sC2))
+    let s = v .before .before .before in
+    let f = at s in
+    rw (intra-is v, s .pre .2) (omega (arith, f .variance-high, f .t2, f .sC2))
 
 returns : tie.Need-returns
 unfolding rowFixed
@@ -195,8 +201,9 @@ returns c =
     let e = o .before in
     let r = e .before in
     let v = r .before .before .before .before in
-    let l = v .before .before .before in
-    let f = at (l .before) in
+    let l = v .before .before in
+    let s = l .before in
+    let f = at s in
     simp (
       r .round-div .ensures,
       o .at-least-one .ensures,
@@ -205,7 +212,7 @@ returns c =
       t .sigma-of2 .ensures,
       c .sigma-of3 .ensures,
       intra-is v,
-      v .before .before .deviations-at .ensures,
+      s .pre .2,
       l .ln-median .ensures,
       toZ-ofZ (f .ln-fits),
       toZ-ofZ (f .near-fits),
@@ -216,7 +223,6 @@ row-from-spec =
     tie.close
     (tie.spec
     ln-median-requires
-    deviations-at-requires
     alpha-of-requires
     intra-variance-requires
     mul-total

@@ -8,15 +8,15 @@ use mathlib.Core.Logic.{⊎-elim, inl, inr}
 use native.Mathlib.Omega.{arith}
 use lib.Dec.{lit<}
 use lib.ListN.{length, getD}
-use Rattle.tables.specs.Tables.{coefficientsAt}
 use Rattle.model.specs.declared.Scenario.{Scenario}
 use Rattle.model.specs.declared.Row.{Row}
 use Rattle.measures.specs.declared.site.Soil.{Soil}
 use Rattle.measures.specs.declared.terms.Path.{Path}
+use Rattle.model.specs.Equations.{PGA}
 use Rattle.model.specs.Fixed.{rowFixed}
 use Rattle.measures.specs.Sharing.{pathOf, soilOf, sharedOf}
 use Rattle.measures.proofs.FilledRows.{Filled, set-filled, pass-filled, path-again, soil-again}
-use Rattle.measures.proofs.OfTables.{of-row, pga-row}
+use Rattle.measures.proofs.OfTables.{of-row, read-2, read-3}
 use Rattle.measures.proofs.rows_of.Statement.{statement}
 use Rattle.measures.proofs.rows_of.Tie as tie
 
@@ -35,41 +35,65 @@ same-turn x k {rows} {rows'} {path} {path'} {soil} {soil'} e f g t =
     (subst (λ (p : Path). Turn x rows' p soil k) (sym f) (subst (λ (s : Soil). Turn x rows' path' s k) (sym g) t))
 
 abbrev Inv-loop : tie.InvT-loop
-Inv-loop x rows₀ path₀ s soil₀ k₀ rows path soil k = Turn x rows path soil k
+Inv-loop x rows₀ table2 table3 path₀ s soil₀ k₀ rows path soil k = Turn x rows path soil k
 
 abbrev μ-loop : tie.MeasureT-loop
-μ-loop x rows₀ path₀ s soil₀ k₀ rows path soil k = 24 - k
+μ-loop x rows₀ table2 table3 path₀ s soil₀ k₀ rows path soil k = 24 - k
 
 -- ---- before the loop
-coefficients-at-requires : tie.Need-coefficients-at-requires Inv-loop μ-loop
-coefficients-at-requires c κs = lit< tt
+all-coefficients-requires : tie.Need-all-coefficients-requires Inv-loop μ-loop
+all-coefficients-requires c κs = search needs
+
+all-deviations-requires : tie.Need-all-deviations-requires Inv-loop μ-loop
+all-deviations-requires c κs = search needs
+
+array-copy-out-pga : tie.Need-array-copy-out-pga Inv-loop μ-loop
+array-copy-out-pga c = search needs
+
+array-copy-out-base : tie.Need-array-copy-out-base Inv-loop μ-loop
+array-copy-out-base c = search needs
 
 path-of-requires : tie.Need-path-of-requires Inv-loop μ-loop
-path-of-requires c κs = (pga-row _ (c .coefficients-at .ensures), c .before .pre)
+path-of-requires c κs =
+    let t = c .before .before .before in
+    (of-row PGA _ (lit< tt) (read-2 PGA (t .all-coefficients .ensures)), t .before .pre)
 
 shared-of-requires : tie.Need-shared-of-requires Inv-loop μ-loop
-shared-of-requires c κs = (c .before .coefficients-at .ensures, c .before .before .pre, c .path-of .ensures)
+shared-of-requires c κs =
+    let d = c .before .before .before in
+    let t = d .before in (
+      read-2 PGA (t .all-coefficients .ensures),
+      read-3 PGA (d .all-deviations .ensures),
+      t .before .pre,
+      c .path-of .ensures,
+    )
 
 soil-of-requires : tie.Need-soil-of-requires Inv-loop μ-loop
 soil-of-requires c κs =
-    (pga-row _ (c .before .before .coefficients-at .ensures), c .before .before .before .pre, c .shared-of .ensures)
+    let t = c .before .before .before .before .before in
+    (of-row PGA _ (lit< tt) (read-2 PGA (t .all-coefficients .ensures)), t .before .pre, c .shared-of .ensures)
 
 row-from-requires : tie.Need-row-from-requires Inv-loop μ-loop
-row-from-requires c κs = (
-  lit< tt,
-  c .before .before .before .coefficients-at .ensures,
-  c .before .before .before .before .pre,
-  c .before .shared-of .ensures,
-  c .before .before .path-of .ensures,
-  c .soil-of .ensures,
-)
+row-from-requires c κs =
+    let h = c .before in
+    let p = h .before in
+    let d = p .before .before .before in
+    let t = d .before in (
+      lit< tt,
+      read-2 PGA (t .all-coefficients .ensures),
+      read-3 PGA (d .all-deviations .ensures),
+      t .before .pre,
+      h .shared-of .ensures,
+      p .path-of .ensures,
+      c .soil-of .ensures,
+    )
 
 array-set-from-rows : tie.Need-array-set-from-rows Inv-loop μ-loop
 array-set-from-rows c = search needs
 
 loop-holds : tie.Need-loop-holds Inv-loop μ-loop
 loop-holds c =
-    let x = c .before .before .before .before .before .args .x in
+    let x = c .before .before .before .before .before .before .before .before .args .x in
     record {
       filled = record { whole = refl; pga = c .row-from .ensures; below = λ j l. absurd (omega (arith, l)) };
       path-is = path-again x _ _ (c .before .before .before .path-of .ensures);
@@ -78,33 +102,53 @@ loop-holds c =
     }
 
 -- ---- a turn
-coefficients-at-requires-2 : tie.Need-coefficients-at-requires-2 Inv-loop μ-loop
-coefficients-at-requires-2 c κs = c .before .loop-test .taken
+mul-c : tie.Need-mul-c Inv-loop μ-loop
+mul-c c = search needs
+
+array-copy-out-c : tie.Need-array-copy-out-c Inv-loop μ-loop
+array-copy-out-c c = search needs
+
+mul-d : tie.Need-mul-d Inv-loop μ-loop
+mul-d c = search needs
+
+array-copy-out-d : tie.Need-array-copy-out-d Inv-loop μ-loop
+array-copy-out-d c = search needs
 
 next-path-requires : tie.Need-next-path-requires Inv-loop μ-loop
 next-path-requires c κs =
-    let t = c .before .before in (
-      of-row _ _ (t .loop-test .taken) (c .coefficients-at2 .ensures),
-      t .before .before .before .before .before .before .before .pre,
-      t .before .loop .inv .path-is,
+    let l = c .before .before .before in
+    let k = l .before .loop .k in
+    let h = l .before .before .before .before in
+    let t = h .before .before .before .before .before in (
+      of-row k _ (l .loop-test .taken) (read-2 k (t .all-coefficients .ensures)),
+      t .before .pre,
+      l .before .loop .inv .path-is,
     )
 
 next-soil-requires : tie.Need-next-soil-requires Inv-loop μ-loop
 next-soil-requires c κs =
-    let t = c .before .before .before in (
-      of-row _ _ (t .loop-test .taken) (c .before .coefficients-at2 .ensures),
-      t .before .before .before .before .before .before .before .pre,
-      t .before .before .before .before .shared-of .ensures,
-      t .before .loop .inv .soil-is,
+    let l = c .before .before .before .before in
+    let k = l .before .loop .k in
+    let h = l .before .before .before .before in
+    let t = h .before .before .before .before .before in (
+      of-row k _ (l .loop-test .taken) (read-2 k (t .all-coefficients .ensures)),
+      t .before .pre,
+      h .shared-of .ensures,
+      l .before .loop .inv .soil-is,
     )
 
 row-from-requires-2 : tie.Need-row-from-requires-2 Inv-loop μ-loop
 row-from-requires-2 c κs =
-    let t = c .before .before .before .before in (
-      t .loop-test .taken,
-      c .before .before .coefficients-at2 .ensures,
-      t .before .before .before .before .before .before .before .pre,
-      t .before .before .before .before .shared-of .ensures,
+    let l = c .before .before .before .before .before in
+    let k = l .before .loop .k in
+    let h = l .before .before .before .before in
+    let d = h .before .before .before .before in
+    let t = d .before in (
+      l .loop-test .taken,
+      read-2 k (t .all-coefficients .ensures),
+      read-3 k (d .all-deviations .ensures),
+      t .before .pre,
+      h .shared-of .ensures,
       c .before .next-path .ensures,
       c .next-soil .ensures,
     )
@@ -113,7 +157,7 @@ mul-rows : tie.Need-mul-rows Inv-loop μ-loop
 mul-rows c = search needs
 
 array-set-from-rows-2 : tie.Need-array-set-from-rows-2 Inv-loop μ-loop
-array-set-from-rows-2 c = c .before .before .before .before .before .loop-test .taken
+array-set-from-rows-2 c = c .before .before .before .before .before .before .loop-test .taken
 
 add-k : tie.Need-add-k Inv-loop μ-loop
 add-k c = search needs
@@ -125,15 +169,15 @@ loop-again : tie.Need-loop-again Inv-loop μ-loop
 loop-again c =
     let t = c .before in
     let l = t .before in
-    let x = l .before .before .before .before .before .before .args .x in
+    let x = l .before .before .before .before .before .before .before .before .before .args .x in
     let k = l .loop .k in
     ⊎-elim
     (λ w.
-    same-turn x (k + 1) (w .5) (w .6) (w .7)
+    same-turn x (k + 1) (w .6) (w .7) (w .8)
     (record {
-      filled = set-filled x (l .loop .rows) k _ (t .loop-test .taken) (w .0 .taken) (w .4 .ensures) (l .loop .inv .filled);
-      path-is = path-again x _ _ (w .2 .ensures);
-      soil-is = soil-again x _ _ (w .3 .ensures);
+      filled = set-filled x (l .loop .rows) k _ (t .loop-test .taken) (w .0 .taken) (w .5 .ensures) (l .loop .inv .filled);
+      path-is = path-again x _ _ (w .3 .ensures);
+      soil-is = soil-again x _ _ (w .4 .ensures);
       end = omega (arith, t .loop-test .taken);
     }))
     (λ w.
@@ -157,14 +201,20 @@ rows-of-spec =
     (tie.spec
     Inv-loop
     μ-loop
-    coefficients-at-requires
+    all-coefficients-requires
+    all-deviations-requires
+    array-copy-out-pga
+    array-copy-out-base
     path-of-requires
     shared-of-requires
     soil-of-requires
     row-from-requires
     array-set-from-rows
     loop-holds
-    coefficients-at-requires-2
+    mul-c
+    array-copy-out-c
+    mul-d
+    array-copy-out-d
     next-path-requires
     next-soil-requires
     row-from-requires-2

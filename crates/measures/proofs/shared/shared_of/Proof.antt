@@ -23,7 +23,7 @@ use Rattle.measures.proofs.shared.shared_of.Tie as tie
 rock-high : (c : tie.After-rock-pga) → c .rock-pga .result ≤ 1490000000
 rock-high c =
     let s = c .before .before .before in
-    rw (c .rock-pga .ensures) (rock-top-fixed (s .args .x) (s .pre .1))
+    rw (c .rock-pga .ensures) (rock-top-fixed (s .args .x) (s .pre .2))
 
 wall-of-requires : tie.Need-wall-of-requires
 wall-of-requires c κs = search needs
@@ -43,19 +43,15 @@ ln-fixed-requires c κs = (omega arith, omega (arith, rock-high c))
 share-of-requires : tie.Need-share-of-requires
 share-of-requires c κs = (rock-high (c .before), lit≤ tt, lit≤ tt)
 
-deviations-at-requires : tie.Need-deviations-at-requires
-deviations-at-requires c κs = search needs
-
 at-base-requires : tie.Need-at-base-requires
 at-base-requires c κs =
     let d = spread-at PGA (lit< tt) in
-    rw (c .deviations-at .ensures) (d .s-low, d .s-high)
+    rw (c .before .before .before .before .before .pre .1) (d .s-low, d .s-high)
 
 returns : tie.Need-returns
 unfolding sharedOf
 returns c =
-    let v = c .before in
-    let h = v .before in
+    let h = c .before in
     let l = h .before in
     let r = l .before in
     let d = r .before in
@@ -65,7 +61,7 @@ returns c =
     sfits-abs _
     (omega (
       arith,
-      log-size (rockPGAFixed (s .args .x) + siteCFixed) (omega arith) (omega (arith, rock-top-fixed (s .args .x) (s .pre .1))),
+      log-size (rockPGAFixed (s .args .x) + siteCFixed) (omega arith) (omega (arith, rock-top-fixed (s .args .x) (s .pre .2))),
     )) in
     simp (
       w .wall-of .ensures,
@@ -73,7 +69,7 @@ returns c =
       l .ln-fixed .ensures,
       h .share-of .ensures,
       c .at-base .ensures,
-      v .deviations-at .ensures,
+      s .pre .1,
       r .rock-pga .ensures,
       toZ-ofZ f,
     )
@@ -88,6 +84,5 @@ shared-of-spec =
     add-ln-fixed
     ln-fixed-requires
     share-of-requires
-    deviations-at-requires
     at-base-requires
     returns)

@@ -1,7 +1,7 @@
 -- Below k1 and from k1 up the term is the definition's, its products small by the row's sizes. Assumes nothing.
 use borrow.Author.Needs.{needs}
 use Prim.Native.Nat.{ℕ, _+_, _*_, _^_, _≤_, _<_}
-use mathlib.Core.Path.{_≡_, ap, _∙_}
+use mathlib.Core.Path.{_≡_, ap, subst, _∙_}
 use native.Mathlib.Omega.{arith}
 use native.Mathlib.Nat.{mul-le-mul}
 use lib.Dec.{lit≤}
@@ -21,7 +21,7 @@ use Rattle.model.specs.Fixed.{curveFixed, siteCFixed, fSiteFixed, rockPGAFixed}
 use Rattle.measures.specs.Sharing.{OfTable2, soilOf}
 use Rattle.measures.proofs.OfTables.{fair-of}
 use Rattle.model.proofs.Sizes.{share-size}
-use Rattle.measures.proofs.SoilLaws.{softSoil, hardSoil, soft-soil, hard-soil, soil-small}
+use Rattle.measures.proofs.SoilLaws.{softSoil, hardSoil, soft-soil, hard-soil, soil-k1, soil-small}
 use Rattle.measures.proofs.site.f_site.Statement.{statement}
 use Rattle.measures.proofs.site.f_site.Tie as tie
 
@@ -78,6 +78,9 @@ ratio-is c = ap (λ (s : Soil). s .ratio) (c .pre .2)
 
 gain-is : (c : tie.Start) → c .args .soil .gain ≡ soilOf (c .args .c .k1) (c .args .x) .gain
 gain-is c = ap (λ (s : Soil). s .gain) (c .pre .2)
+
+k1-is : (c : tie.Start) → c .args .soil .k1 ≡ c .args .c .k1
+k1-is c = ap (λ (s : Soil). s .k1) (c .pre .2) ∙ soil-k1 (c .args .c .k1) (c .args .x)
 
 mul-div-requires : tie.Need-mul-div-requires
 mul-div-requires c κs =
@@ -142,7 +145,7 @@ returns c =
       toZ-ofZ (f .q),
       toZ-ofZ (f .sum),
     )
-    (soft-is (s .args .c) (s .args .x) (t .if1 .taken))
+    (soft-is (s .args .c) (s .args .x) (subst (λ (k : ℕ). s .args .x .vs30 < k) (k1-is s) (t .if1 .taken)))
 
 linear-of-requires : tie.Need-linear-of-requires
 linear-of-requires c κs = search needs
@@ -161,7 +164,7 @@ returns-2 c =
     let f = at s in
     simp
     (c .mul-div3 .ensures, l .linear-of .ensures, ratio-is s, toZ-ofZ (f .linear-fits), toZ-ofZ (f .ratio-fits), toZ-ofZ (f .whole))
-    (hard-is (s .args .c) (s .args .x) (t .if1 .left))
+    (hard-is (s .args .c) (s .args .x) (subst (λ (k : ℕ). k ≤ s .args .x .vs30) (k1-is s) (t .if1 .left)))
 
 pub f-site-spec : {M : Type 1} → statement M
 f-site-spec =

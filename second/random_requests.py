@@ -1,0 +1,244 @@
+#!/usr/bin/env python3
+"""Requests for the comparison. First, the same in every long list: each magnitude of each style, each Vs30, dip, azimuth and rake, and
+odd words in each field. Then random ones: every pattern of blank fields, values at and beside each branch of the rules, lines with
+fields out of range, lines at a limit that a completed figure decides, and malformed lines. The same seed gives the same list.
+
+    python3 second/random_requests.py SEED COUNT > list
+"""
+import math
+import random
+import sys
+
+NAMES = "m rake vs30 dip w zhyp ztor rjb azimuth rrup z10 z15 z25".split()
+STARRED = "dip w zhyp ztor rrup z10 z15 z25".split()
+TOP = {"strike-slip": 850, "reverse": 800, "normal": 750}
+RAKES = {
+    "strike-slip": [-180, -179, -151, -150, -30, -29, 0, 29, 30, 150, 151, 179, 180],
+    "reverse": [31, 32, 90, 148, 149],
+    "normal": [-149, -148, -90, -32, -31],
+}
+K1 = [400, 410, 457, 503, 587, 654, 748, 865, 878, 908, 1032, 1054, 1086]
+EDGES = {
+    "m": [400, 401, 549, 550, 551, 599, 600, 601, 625, 649, 650, 651, 749, 750, 799, 800, 849, 850],
+    "vs30": [150, 151, 179, 180, 181, 499, 500, 501, 1099, 1100, 1101, 1499, 1500] + [k + d for k in K1 for d in (-1, 0, 1)],
+    "dip": [15, 16, 30, 45, 60, 69, 70, 71, 72, 88, 89, 90],
+    "w": [1, 2, 10, 99999, 100000],
+    "zhyp": [0, 1, 5000, 14999, 15000, 15001],
+    "ztor": [0, 1, 998, 999, 1000, 1001, 14999, 15000],
+    "rjb": [0, 0, 1, 2, 10, 999, 1000, 1001],
+    "azimuth": [-180, -179, -91, -90, -89, -1, 0, 1, 2, 30, 45, 60, 88, 89, 90, 91, 92, 120, 135, 150, 178, 179, 180],
+    "z10": [0, 1, 134, 1000, 2636, 2637],
+    "z15": [0, 1, 235, 1000, 6044, 6045],
+    "z25": [0, 1, 998, 999, 1000, 1001, 2999, 3000, 3001, 9999, 10000],
+}
+RANGES = {
+    "vs30": (150, 1500),
+    "dip": (15, 90),
+    "zhyp": (0, 16000),
+    "ztor": (0, 15000),
+    "azimuth": (-180, 180),
+    "z10": (0, 2637),
+    "z15": (0, 6045),
+    "z25": (0, 10000),
+}
+OUTSIDE = {
+    "m": ["-", 0, 399, 751, 801, 851, 999999],
+    "rake": ["-", -999999, -181, 181, 999999],
+    "vs30": ["-", 0, 149, 1501, 999999],
+    "dip": [0, 14, 91, 999999],
+    "w": [0, 100001, 999999],
+    "zhyp": [30001, 999999],
+    "ztor": [15001, 999999],
+    "rjb": ["-", 200001, 999999],
+    "azimuth": ["-", -999999, -181, 181, 999999],
+    "rrup": [0, 200001, 999999],
+    "z10": [2638, 10000, 10001, 999999],
+    "z15": [6046, 10000, 10001, 999999],
+    "z25": [10001, 999999],
+}
+
+
+LONG = 1000
+WORDS = ["", "-", "--", "-0", "00", "01", "-01", "-1", "+1", "1-", "0.5", "1e3", "~5", "x", "999999", "1000000", "-999999", "-1000000"]
+
+
+def spread(some, high):
+    """A whole number up to a limit, the small ones as likely as the large."""
+    return min(high, int(math.exp(some.uniform(0, math.log(high + 1)))))
+
+
+def value(some, name, high):
+    """A field's number within its range, often at an edge."""
+    if some.random() < 0.3:
+        return some.choice([v for v in EDGES[name] if v <= high])
+    if name == "m":
+        return some.randint(400, high)
+    if name == "w":
+        return spread(some, 100000)
+    if name == "rjb":
+        return some.choice([spread(some, 190000), some.randint(0, 200000)])
+    low, high = RANGES[name]
+    return some.choice([some.randint(low, high), low + spread(some, high - low)])
+
+
+def root_up(n):
+    """The smallest whole number whose square is not below n."""
+    return math.isqrt(n - 1) + 1 if n else 0
+
+
+def given_rrup(some, fields):
+    """A given RRUP: at the limit of refusal 12 or above it where ZTOR is given, else most often large enough."""
+    rjb = fields["rjb"]
+    if fields["ztor"] == "-":
+        return min(200000, rjb + some.choice([some.randint(0, 20000), 15000 + spread(some, 20000)]))
+    least = root_up(rjb * rjb + fields["ztor"] ** 2)
+    return max(0, some.choice([least + some.randint(-3, 3), least + spread(some, 20000), min(200000, least + some.randint(0, 50000))]))
+
+
+def plain(some, pattern):
+    """Fields in their ranges, blank where the pattern's bits say so."""
+    style = some.choice(list(TOP))
+    fields = {"rake": some.choice(RAKES[style])}
+    if some.random() < 0.5:
+        rake = some.randint(-180, 180)
+        style, fields["rake"] = ("reverse" if 30 < rake < 150 else "normal" if -150 < rake < -30 else "strike-slip"), rake
+    for name in NAMES:
+        if name in STARRED and pattern >> STARRED.index(name) & 1:
+            fields[name] = "-"
+        elif name not in ("rake", "rrup"):
+            fields[name] = value(some, name, TOP[style] if name == "m" else 999999)
+    if "rrup" not in fields:
+        fields["rrup"] = given_rrup(some, fields)
+    return fields
+
+
+def folded(some, pattern):
+    """A hanging-wall site where one formula of the geometry gives way to another."""
+    fields = plain(some, pattern)
+    dip, azimuth = some.randint(15, 89), some.choice([some.randint(1, 89), some.randint(91, 179)])
+    w, tangent = max(1, spread(some, 60000)), abs(math.tan(math.radians(azimuth)))
+    h, steep = w * math.cos(math.radians(dip)), math.tan(math.radians(dip))
+    ztor = some.choice([0, 1, spread(some, 15000), some.randint(0, 15000)])
+    rx = some.choice([h, ztor * steep, ztor * steep + w / math.cos(math.radians(dip))])
+    rjb = rx / tangent if rx <= h else math.hypot(rx - h, rx / tangent)
+    fields.update(dip=dip, w=w, ztor=ztor, azimuth=azimuth, rrup="-", rjb=max(0, min(200000, round(rjb) + some.randint(-2, 2))))
+    return fields
+
+
+def hanging(some, pattern):
+    """A request that a completed figure at its limit refuses or not: ZTOR at 15000, RRUP at 200000, or a given RRUP against ZTOR."""
+    fields = plain(some, pattern)
+    kind = some.randrange(3)
+    if kind == 0:
+        dip, w = some.choice([15, 30, 47, 73, 90]), spread(some, 15000)
+        fields.update(dip=dip, w=w, ztor="-", zhyp=15000 + round(0.6 * w * math.sin(math.radians(dip))) + some.randint(-1, 2))
+    elif kind == 1:
+        dip, w, ztor = some.choice([15, 40, 75, 90]), spread(some, 100000), some.randint(0, 15000)
+        h, depth = w * math.cos(math.radians(dip)), ztor + w * math.sin(math.radians(dip))
+        deep = some.random() < 0.5 and dip < 90
+        rjb = math.sqrt(200000**2 - (depth if deep else ztor) ** 2)
+        fields.update(dip=dip, w=w, ztor=ztor, rrup="-", azimuth=90 if deep else -90, rjb=round(rjb) + some.randint(-2, 1))
+    else:
+        fields.update(dip=90, w=spread(some, 20000), ztor="-", zhyp=some.randint(0, 15000))
+        ztor = max(0, math.floor(fields["zhyp"] - 0.6 * fields["w"]))
+        fields.update(rrup=max(0, root_up(fields["rjb"] ** 2 + ztor**2) + some.randint(-3, 2)))
+    return fields
+
+
+def refused(some, pattern):
+    """Fields of which one, two or three are out of range or blank without a star."""
+    fields = plain(some, pattern)
+    for name in some.sample(NAMES, some.choice([1, 1, 1, 2, 3])):
+        fields[name] = some.choice(OUTSIDE[name])
+    if some.random() < 0.1:
+        fields.update(dip=some.randint(15, 90), rjb=0, azimuth=90, rrup=some.choice(["-", "-", 5000]))
+    return fields
+
+
+def line_of(fields):
+    """The fields as a line."""
+    return " ".join(str(fields[name]) for name in NAMES).encode()
+
+
+def spoiled(some, line):
+    """A line with something wrong in its bytes; now and then it stays well-formed."""
+    words = line.split(b" ")
+    k, at = some.randrange(13), some.randrange(len(line) + 1)
+    return some.choice([
+        lambda: line[:at] + line[at + 1:],
+        lambda: line[:at] + bytes([some.randrange(256)]) + line[at:],
+        lambda: line[:at] + bytes([some.randrange(256)]) + line[at + 1:],
+        lambda: line[:at] + some.choice([b" ", b"-", b"0", b"\0", b"\r", b"\t", b"\n", b"+", b".", b"~", b"\xff"]) + line[at:],
+        lambda: b" ".join(words[:k] + [some.choice([*(w.encode() for w in WORDS), b"0" + words[k], b"-" + words[k]])] + words[k + 1:]),
+        lambda: b" ".join(words[:k] + words[k + 1:]),
+        lambda: b" ".join(words[:k] + [b"-"] + words[k:]),
+        lambda: b" ".join(words[:k] + [b""] + words[k:]),
+        lambda: some.choice([line + b" ", b" " + line, line + b"\r", line + b"\0", line + b" -", b""]),
+        lambda: (line + b" " * 200)[:some.choice([99, 100, 101, 102, 200])],
+        lambda: some.choice([b"9", b"-", b" ", b"x", b"\0"]) * some.choice([1, 13, 100, 101, 255, 5000]),
+        lambda: bytes(some.randrange(256) for _ in range(some.randrange(120))),
+        lambda: b" ".join(some.choice([b"-", b"0", b"1", b"-1", b"999999"]) for _ in range(some.choice([12, 13, 13, 13, 14]))),
+    ])()
+
+
+def every():
+    """Each value of the fields whose rules have a small domain and each odd word in each field, the rest of the request plain."""
+    whole = dict(zip(NAMES, "650 90 300 - - - - 7000 60 - - - -".split()))
+    for rake in (0, 90, -90):
+        for m in range(399, 852):
+            yield {**whole, "m": m, "rake": rake}
+    for vs30 in range(149, 1502):
+        yield {**whole, "vs30": vs30}
+    for dip in range(14, 92):
+        for rjb in (0, 900, 7000, 90000):
+            yield {**whole, "dip": dip, "w": 12000, "rjb": rjb}
+    for azimuth in range(-181, 182):
+        for rjb in (1, 900, 7000, 90000):
+            yield {**whole, "azimuth": azimuth, "rjb": rjb}
+    for rake in range(-181, 182):
+        yield {**whole, "rake": rake}
+    for dip in ("-", 15, 89, 90):
+        for rjb in (0, 1):
+            for azimuth in (-90, 0, 1, 89, 90, 91, 179, 180):
+                for rrup in ("-", 9000):
+                    for rake in (0, 90):
+                        yield {**whole, "rake": rake, "dip": dip, "rjb": rjb, "azimuth": azimuth, "rrup": rrup}
+    for m in (599, 600, 601, 625, 649, 650, 651, 652):
+        for ztor in (0, 999, 1000, 1001, 5000):
+            for rjb in (0, 1, 500, 1000, 5000):
+                least = root_up(rjb**2 + ztor**2)
+                for rrup in ("-", max(0, least - 2), max(0, least - 1), least, least + 1000):
+                    yield {**whole, "m": m, "dip": 71, "ztor": ztor, "rjb": rjb, "azimuth": -90, "rrup": rrup}
+    for name in NAMES:
+        for word in WORDS:
+            yield {**whole, name: word}
+
+
+def refused_lists():
+    """Short lists without an accepted line, most of them unfinished."""
+    whole = b"650 90 300 - - - - 7000 60 - - - -"
+    short = [b"", b"\n", b"\n\n", b"6", b"-", b"\0", whole, whole[:-1] + b"\n" + whole]
+    return short + [b"x" * 100, b"x" * 101, b"x" * 100 + b"\n" + b"x" * 101 + b"\n", b"x" * 200000]
+
+
+def requests(seed, count):
+    """The list: each value once if it is to be long, `count` random lines or a few more, the last one unfinished."""
+    some = random.Random(seed)
+    lines = [line_of(fields) for fields in every()] if count >= LONG else []
+    for k in range(count):
+        u, pattern = some.random(), k % 256
+        if u < 0.66:
+            lines.append(line_of(plain(some, pattern)))
+        elif u < 0.76:
+            lines.append(line_of(folded(some, pattern)))
+        elif u < 0.80:
+            lines.append(line_of(hanging(some, pattern)))
+        elif u < 0.92:
+            lines.append(line_of(refused(some, pattern)))
+        else:
+            lines.append(spoiled(some, line_of(plain(some, pattern))))
+    return b"\n".join(lines) + b"\n" + some.choice([lines[0], b"65", b"\0", b"-"])
+
+
+if __name__ == "__main__":
+    sys.stdout.buffer.write(requests(int(sys.argv[1]), int(sys.argv[2])))

@@ -1,0 +1,248 @@
+#!/usr/bin/env python3
+"""Shows that the comparison can fail: the second program with one thing wrong takes the place of the proved programs, and
+second/compare.py must refuse it; with another rounding that document 01 allows it must pass.
+
+    python3 second/wrong.py [--tables] [--lines N]
+
+With --tables every number of Tables 2 and 3 that a predicted line shows is put wrong by one in its last digit in turn, and the outside
+numbers of second/vectors.py are tried on it too. Exit 1 if a wrong program passes.
+"""
+import argparse
+import os
+import re
+import shutil
+import subprocess
+import sys
+
+from programs import HERE, build, scratch
+
+# What must be refused: a file, a piece of its text, what takes its place.
+WRONG = [
+    ("request.c", "size > LINE_BYTES", "size > LINE_BYTES - 60"),
+    ("request.c", "count > 6", "count > 7"),
+    ("request.c", "count > 6", "count > 5"),
+    ("request.c", "(count > 1 || negative)", "(count > 1)"),
+    ("request.c", "(count > 1 || negative)", "(negative)"),
+    ("request.c", "k == F_RAKE || k == F_AZIMUTH", "k == F_RAKE"),
+    ("request.c", "if (negative && !may_be_negative)", "if (negative && size == 3 && !may_be_negative)"),
+    ("request.c", "(end < size) != (k + 1 < FIELDS)", "(end < size) < (k + 1 < FIELDS)"),
+    ("request.c", "30 < rake && rake < 150", "30 <= rake && rake < 150"),
+    ("request.c", "30 < rake && rake < 150", "30 < rake && rake <= 150"),
+    ("request.c", "-150 < rake && rake < -30", "-150 <= rake && rake < -30"),
+    ("request.c", "-150 < rake && rake < -30", "-150 < rake && rake <= -30"),
+    ("request.c", "style == REVERSE ? 800 : 750", "style == REVERSE ? 799 : 750"),
+    ("request.c", "style == REVERSE ? 800 : 750", "style == REVERSE ? 800 : 751"),
+    ("request.c", "STRIKE_SLIP ? 850", "STRIKE_SLIP ? 851"),
+    ("request.c", "style == REVERSE ? 40 : 50", "style == REVERSE ? 40 : 55"),
+    ("request.c", "-0.76 + 0.27 * magnitude", "-0.76 + 0.2701 * magnitude"),
+    ("request.c", "-1.61 + 0.41 * magnitude", "-1.62 + 0.41 * magnitude"),
+    ("request.c", "-1.14 + 0.35 * magnitude", "-1.14 + 0.36 * magnitude"),
+    ("request.c", "56300 + 68 * m", "56300 + 61 * m"),
+    ("request.c", "112400 - 20 * m", "112400 + 20 * m"),
+    ("request.c", "- 6 * (double)w * sine(dip)", "- 6 * (double)w * cosine(dip)"),
+    ("request.c", "return tenths > 0 ? tenths / 10 : 0;", "return fabs(tenths) / 10;"),
+    ("request.c", "return tenths > 0 ? tenths / 10 : 0;", "return tenths > 0 ? tenths / 10 + 3 : 0;"),
+    ("request.c", "return hypot((double)rjb, (double)ztor);", "return hypot((double)rjb, (double)ztor) + 1;"),
+    ("request.c", "if (dip == 90 || azimuth <= 0 || azimuth == 180)", "if (azimuth <= 0 || azimuth == 180)"),
+    ("request.c", "if (dip == 90 || azimuth <= 0 || azimuth == 180)", "if (dip == 90 || azimuth == 180)"),
+    ("request.c", "return rjb + h;", "return rjb;"),
+    ("request.c", "if (rjb * fabs(tangent) <= h)", "if (1)"),
+    ("request.c", "asin(h * cosine(azimuth) / rjb)", "asin(h * sine(azimuth) / rjb)"),
+    ("request.c", "if (rx < ztor * t)", "if (0)"),
+    ("request.c", "ztor * t + w / c", "ztor * t + w * c"),
+    ("request.c", "rx - w * c, ztor + w * s", "rx, ztor + w * s"),
+    ("request.c", "return distance > least ? distance : least;", "return distance > least + 9 ? distance - 9 : least;"),
+    ("request.c", "ceil(exact - MICROMETRE)", "ceil(exact + 3)"),
+    ("request.c", "636 + 1549 *", "636 + 1550 *"),
+    ("request.c", "519 + 3595 *", "519 + 3596 *"),
+    ("request.c", "(long)floor(c.exact.z25)", "(long)ceil(c.exact.z25)"),
+    ("request.c", "(long)floor(c.exact.w)", "(long)floor(c.exact.w) + f[F_W].given"),
+    ("request.c", "(long)floor(c.exact.ztor)", "(long)floor(c.exact.ztor) + f[F_ZTOR].given"),
+    ("request.c", "f[F_RRUP].given ? f[F_RRUP].number : reported", "f[F_RRUP].given ? f[F_RRUP].number + 1 : reported"),
+    ("request.c", "(long)floor(c.exact.z25)", "(long)floor(c.exact.z25) + f[F_Z25].given"),
+    ("request.c", "c.dip = f[F_DIP].given ? f[F_DIP].number", "c.dip = f[F_DIP].given && f[F_DIP].number > 15 ? f[F_DIP].number"),
+    ("request.c", "c.from[k] = f[columns[k]].given ? 'g' : 'e';", "c.from[k] = f[columns[k]].given ? 'e' : 'g';"),
+    ("request.c", "if (z15->given)", "if (z15->given && !z10->given)"),
+    ("request.c", "v < 180 ? 6.745", "v < 190 ? 6.745"),
+    ("request.c", "v <= 500 ?", "v < 500 ?"),
+    ("request.c", "6.745 - 1.35 * log", "6.745 - 1.36 * log"),
+    ("request.c", "5.394 - 4.48 * log", "5.394 - 4.38 * log"),
+    ("request.c", "&f[F_RAKE], -180, 180", "&f[F_RAKE], -181, 180"),
+    ("request.c", "&f[F_RAKE], -180, 180", "&f[F_RAKE], -180, 181"),
+    ("request.c", "&f[F_M], 400,", "&f[F_M], 399,"),
+    ("request.c", "&f[F_VS30], 150, 1500", "&f[F_VS30], 149, 1500"),
+    ("request.c", "&f[F_VS30], 150, 1500", "&f[F_VS30], 150, 1501"),
+    ("request.c", "&f[F_DIP], 15, 90", "&f[F_DIP], 14, 90"),
+    ("request.c", "&f[F_DIP], 15, 90", "&f[F_DIP], 15, 89"),
+    ("request.c", "&f[F_W], 1, 100000", "&f[F_W], 0, 100000"),
+    ("request.c", "&f[F_W], 1, 100000", "&f[F_W], 1, 99999"),
+    ("request.c", "&f[F_ZHYP], 0, 30000", "&f[F_ZHYP], 0, 30001"),
+    ("request.c", "(limits || f[F_ZTOR].given) && c.ztor > 15000", "f[F_ZTOR].given && c.ztor > 15000"),
+    ("request.c", "(limits || f[F_ZTOR].given) && c.ztor > 15000", "(limits || f[F_ZTOR].given) && c.ztor > 15001"),
+    ("request.c", "(limits || f[F_ZTOR].given) && c.ztor > 15000", "(limits || f[F_ZTOR].given) && c.ztor > 15000 + !f[F_ZTOR].given"),
+    ("request.c", "(limits || f[F_ZTOR].given) && c.ztor > 15000", "(limits || f[F_ZTOR].given) && c.ztor > 15000 - 3 * !f[F_ZTOR].given"),
+    ("request.c", "&f[F_RJB], 0, 200000", "&f[F_RJB], 0, 200001"),
+    ("request.c", "&f[F_AZIMUTH], -180, 180", "&f[F_AZIMUTH], -179, 180"),
+    ("request.c", "&f[F_AZIMUTH], -180, 180", "&f[F_AZIMUTH], -180, 179"),
+    ("request.c", "c.rjb == 0 && f[F_AZIMUTH].number == 90", "c.rjb == 0 && f[F_AZIMUTH].number > 0"),
+    ("request.c", "!f[F_RRUP].given && c.dip < 90 &&", "c.dip < 90 &&"),
+    ("request.c", "!f[F_RRUP].given && c.dip < 90 &&", "!f[F_RRUP].given && c.dip < 91 &&"),
+    ("request.c", "(limits || f[F_RRUP].given) && c.rrup > 200000", "f[F_RRUP].given && c.rrup > 200000"),
+    ("request.c", "(limits || f[F_RRUP].given) && c.rrup > 200000", "(limits || f[F_RRUP].given) && c.rrup > 200000 + !f[F_RRUP].given"),
+    ("request.c", "(limits || f[F_RRUP].given) && c.rrup > 200000", "(limits || f[F_RRUP].given) && c.rrup > 200000 - 3 * !f[F_RRUP].given"),
+    ("request.c", "(r + 1) * (r + 1) < b * b + z * z", "r * r < b * b + z * z"),
+    ("request.c", "(r + 1) * (r + 1) < b * b + z * z", "(r + 1) * (r + 1) <= b * b + z * z"),
+    ("request.c", "(r + 1) * (r + 1) < b * b + z * z", "(r + 1) * (r + 1) < b * b + 0 * z"),
+    ("request.c", "outside(&f[F_Z10], 0, 10000) || ", "(outside(&f[F_Z10], 0, 10000) && !f[F_Z25].given) || "),
+    ("request.c", "&f[F_Z15], 0, 10000", "&f[F_Z15], 0, 10001"),
+    ("request.c", "(limits || f[F_Z25].given) && c.z25 > 10000", "f[F_Z25].given && c.z25 > 10000"),
+    ("request.c", "{F_DIP, F_W, F_ZTOR, F_RRUP, F_Z25}", "{F_DIP, F_W, F_ZHYP, F_RRUP, F_Z25}"),
+    ("main.c", "if (size > 0)\n", "if (size > 1)\n"),
+    ("main.c", '"%d %lld %lld %lld\\n", k, r.', '"%d %lld %lld %lld\\n", k == 22 ? 23 : k, r.'),
+    ("main.c", '"%d %lld %lld %lld\\n", k, r.', '"%d %lld %lld  %lld\\n", k, r.'),
+    ("main.c", '"%d %lld %lld %lld\\n", k, r.', '"%d %+lld %lld %lld\\n", k, r.'),
+    ("main.c", "r.median, r.total);", "r.median, r.arbitrary);"),
+    ("main.c", "r.median, r.total);", "r.median, r.intra);"),
+    ("main.c", "    return MEASURES;", "    return MEASURES - 1;"),
+    ("model.c", "spectrum[measure] = predict(f, measure, a);", "spectrum[measure] = predict(f, 0, a);"),
+    ("model.c", "#define C 1.88", "#define C 1.881"),
+    ("model.c", "#define N 1.18", "#define N 1.181"),
+    ("model.c", "#define ROCK 1100.0", "#define ROCK 1101.0"),
+    ("model.c", "#define SIGMA_AF 0.3", "#define SIGMA_AF 0.31"),
+    ("model.c", "if (m > 5.5)", "if (m > 5.6)"),
+    ("model.c", "if (m > 6.5)", "if (m > 6.4)"),
+    ("model.c", "(t->c4 + t->c5 * m)", "(t->c4 + t->c5 * 6)"),
+    ("model.c", "(ztor < 1 ? ztor : 1)", "1"),
+    ("model.c", "style == NORMAL ? t->c8 : 0", "style == STRIKE_SLIP ? t->c8 : 0"),
+    ("model.c", "if (rjb == 0)\n        return 1;", "if (rjb == 0)\n        return 0.99;"),
+    ("model.c", "ztor < 1 ? fmax(rrup, sqrt(rjb * rjb + 1)) : rrup", "rrup"),
+    ("model.c", "ztor < 1 ? fmax(rrup, sqrt(rjb * rjb + 1)) : rrup", "fmax(rrup, sqrt(rjb * rjb + 1))"),
+    ("model.c", "ztor < 1 ? fmax", "ztor <= 1 ? fmax"),
+    ("model.c", "if (m <= 6)", "if (m <= 6.01)"),
+    ("model.c", "m < 6.5 ? 2 * (m - 6) : 1", "m < 6.52 ? 2 * (m - 6) : 1"),
+    ("model.c", "(20 - f->ztor) / 20", "(15 - f->ztor) / 15"),
+    ("model.c", "f->dip <= 70 ? 1", "f->dip <= 71 ? 1"),
+    ("model.c", "* f_hng_m(f->m) * depth * dip", "* f_hng_m(f->m) * depth"),
+    ("model.c", "t->k2 * (log(a + C * pow(vs30 / t->k1, N)) - log(a + C))", "t->k2 * (log(a + C * (vs30 / t->k1)) - log(a + C))"),
+    ("model.c", "(vs30 < ROCK ? vs30 : ROCK)", "vs30"),
+    ("model.c", "if (z25 < 1)", "if (z25 < 1.5)"),
+    ("model.c", "if (z25 <= 3)", "if (z25 <= 3.5)"),
+    ("model.c", "exp(-0.75)", "exp(-0.76)"),
+    ("model.c", "exp(-0.25 * (z25 - 3))", "exp(-0.26 * (z25 - 3))"),
+    ("model.c", "ln_median(&TABLE2[MEASURE_PGA], f, ROCK, 0)", "ln_median(&TABLE2[MEASURE_PGA], f, f->vs30, 0.1)"),
+    ("model.c", "t->k2 * a * (1 /", "t->k2 * (1 /"),
+    ("model.c", "2 * alpha * d->rho * below * rock", "alpha * d->rho * below * rock"),
+    ("model.c", "alpha * alpha * rock * rock", "alpha * alpha * rock"),
+    ("model.c", "llround(p->ln_median * 1e6)", "llround(p->ln_median * 1e6) + 6"),
+    ("model.c", "llround(p->total * 1e6)", "llround(p->total * 1e6) - 6"),
+    ("model.c", "llround(p->median * 1e10)", "llround(p->median * 1.00002e10) + 1"),
+]
+
+# What document 01 leaves open and the comparison must let pass.
+ALLOWED = [
+    ("request.c", "(long)floor(c.exact.w)", "(long)ceil(c.exact.w)"),
+    ("request.c", "(long)floor(c.exact.ztor)", "(long)ceil(c.exact.ztor)"),
+    ("request.c", "(long)floor(c.exact.ztor)", "(long)floor(c.exact.ztor) + !f[F_ZTOR].given"),
+    ("request.c", "ceil(exact - MICROMETRE)", "ceil(exact - 1)"),
+    ("request.c", "dip), ry);", "dip), ry) + 1;"),
+    ("request.c", "return 519 + 3.595 * exp(ln_z);", "return ceil(519 + 3.595 * exp(ln_z));"),
+    ("model.c", "llround(p->ln_median * 1e6)", "llround(p->ln_median * 1e6) + 4"),
+    ("model.c", "llround(p->total * 1e6)", "llround(p->total * 1e6) - 4"),
+    ("model.c", "llround(p->median * 1e10)", "llround(p->median * 1.000009e10)"),
+]
+
+
+def edited(file, old, new):
+    """The second program with a piece of its text replaced, compiled."""
+    place = scratch()
+    for name in os.listdir(HERE):
+        if name.endswith((".c", ".h")):
+            shutil.copy(os.path.join(HERE, name), place)
+    path = os.path.join(place, file)
+    with open(path) as given:
+        text = given.read()
+    if text.count(old) != 1:
+        sys.exit(f"{file}: {old!r} occurs {text.count(old)} times")
+    with open(path, "w") as taken:
+        taken.write(text.replace(old, new))
+    return build(place, flags=["-std=c11"])
+
+
+def tried(script, program, *more):
+    """Whether a script lets a program pass in the place of the proved ones, and what it said."""
+    done = subprocess.run(
+        [sys.executable, os.path.join(HERE, script), *more, "--complete", f"{program} complete", "--predict", f"{program} predict"],
+        stdout=subprocess.PIPE, stderr=subprocess.PIPE, text=True,
+    )
+    if done.returncode not in (0, 1) or done.stderr:
+        sys.exit(f"{script} broke off: {done.stderr}")
+    return done.returncode == 0, done.stdout
+
+
+def digits(text, table, columns):
+    """Each number of a table as the text around it with its last digit put wrong by one, and its place."""
+    start = text.index(table + "[MEASURES] = {")
+    rows = list(re.finditer(r"\{([^{}]*)\}", text[start + len(table) + 14:text.index("};", start)]))
+    for measure, row in enumerate(rows):
+        at = start + len(table) + 14 + row.start(1)
+        for column, number in enumerate(re.finditer(r"[-\d.]+", row[1])):
+            if column in columns(measure):
+                last = at + number.end() - 1
+                digit = str(int(text[last]) + 1 if text[last] < "9" else 8)
+                yield measure, column, text[:last] + digit + text[last + 1:]
+
+
+def table_programs():
+    """Every number that a predicted line shows, one in its last digit off. Where k2 is 0 the correlation is read by nothing."""
+    with open(os.path.join(HERE, "model.c")) as given:
+        text = given.read()
+    rows = re.findall(r"\{([^{}]*)\}", text.split("TABLE2[MEASURES] = {")[1])[:24]
+    soft = {measure for measure, row in enumerate(rows) if float(row.split(",")[14]) != 0}
+    for table, columns in (("TABLE2", lambda m: range(16)), ("TABLE3", lambda m: {0, 1, 3} if m in soft else {0, 1})):
+        for measure, column, changed in digits(text, table, columns):
+            yield f"{table} measure {measure} column {column}", edited("model.c", text, changed)
+
+
+def try_tables(compare):
+    """Puts each number of the tables wrong; how many of these programs pass the comparison."""
+    count = passing = outside = 0
+    for name, program in table_programs():
+        compared, vectors = tried("compare.py", program, *compare)[0], tried("vectors.py", program)[0]
+        count, passing, outside = count + 1, passing + compared, outside + (not vectors)
+        if compared:
+            print(f"FAILED {name} passes the comparison")
+        if vectors:
+            print(f"{name} passes the outside numbers")
+    print(f"{count} numbers put wrong, {count - passing} refused by the comparison, {outside} by the outside numbers")
+    return passing
+
+
+def try_edits(compare):
+    """Tries the two lists above; how many of their programs fare otherwise than they must."""
+    bad = 0
+    for edit in WRONG:
+        if tried("compare.py", edited(*edit), *compare)[0]:
+            bad += 1
+            print(f"FAILED passes: {edit}")
+    for edit in ALLOWED:
+        passed, said = tried("compare.py", edited(*edit), *compare)
+        if not passed:
+            bad += 1
+            print(f"FAILED refused: {edit}\n{said}")
+        print(f"{edit[2]}: " + "; ".join(line for line in said.split("\n") if "answers differ" in line))
+    print(f"{len(WRONG)} wrong programs and {len(ALLOWED)} allowed ones tried, {bad} fared otherwise")
+    return bad
+
+
+def main():
+    """One of the two trials, and the exit status."""
+    options = argparse.ArgumentParser(description=__doc__.split("\n")[0])
+    options.add_argument("--tables", action="store_true")
+    options.add_argument("--lines", help="random requests for each program; 6000, and 600 for the tables")
+    given = options.parse_args()
+    compare = ["1", given.lines or ("600" if given.tables else "6000"), "--second", build()]
+    sys.exit(1 if (try_tables if given.tables else try_edits)(compare) else 0)
+
+
+if __name__ == "__main__":
+    main()
