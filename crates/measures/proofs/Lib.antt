@@ -1,3 +1,4 @@
 pub mod OfTables
 pub mod SoilLaws
 pub mod FilledRows
+pub mod LinearSite

@@ -14,6 +14,8 @@ use reckon::round_div;
 use shared::PGA;
 use shared::Shared;
 use shared::shared_of;
+use sigma::cross_at;
+use sigma::intra_sigma;
 use sigma::intra_variance;
 use sigma::sigma_of;
 use site::Soil;
@@ -65,14 +67,15 @@ fn row_from(
     ensures { λ r. ⌜ r ≡ rowFixed i x ⌝ }
 {
     let l = ln_median(i, c, x, s, path, soil);
-    let intra = intra_variance(d, alpha_of(c, x, soil), s.sigma);
+    let alpha = alpha_of(c, x, soil);
+    let intra = intra_variance(d, cross_at(i), alpha, s.sigma);
     let total = intra + d.t * d.t * 1_000;
     let arbitrary = total + d.sC * d.sC * 1_000;
     let inter = d.t * 1_000;
     Row {
         ln: round_div(l, 1_000),
         median: at_least_one(exp_fixed(l)),
-        intra: sigma_of(intra),
+        intra: intra_sigma(d, alpha, intra),
         inter: inter,
         total: sigma_of(total),
         arbitrary: sigma_of(arbitrary),

@@ -22,18 +22,47 @@ pub fn at_base(s: u64) -> u64
     whole_root((s * s - 300 * 300) * 1_000_000_000_000)
 }
 
-// 2 rho sigma_lnYB.
-fn cross_of(d: Deviations) -> u64
-    requires { ⌜ OfTable3 d ⌝ }
-    ensures { λ r. ⌜ r ≡ crossFixed d ⌝ }
+// 2 rho sigma_lnYB, which Table 3 alone fixes: held to it by a computed test, so that no request
+// spends a root on it.
+const CROSS: [u64; 24] = [
+    744_268_768, // 0.010 s
+    748_650_358, // 0.020 s
+    763_828_204, // 0.030 s
+    794_343_669, // 0.050 s
+    783_211_729, // 0.075 s
+    786_887_839, // 0.10 s
+    782_034_039, // 0.15 s
+    769_554_008, // 0.20 s
+    752_766_951, // 0.25 s
+    754_218_455, // 0.30 s
+    706_815_673, // 0.40 s
+    677_636_516, // 0.50 s
+    605_782_744, // 0.75 s
+    515_108_256, // 1.0 s
+    392_582_242, // 1.5 s
+    321_626_416, // 2.0 s
+    271_945_160, // 3.0 s
+    256_671_173, // 4.0 s
+    208_307_848, // 5.0 s
+    191_995_103, // 7.5 s
+    207_312_511, // 10.0 s
+    744_268_768, // PGA
+    524_898_081, // PGV
+    207_312_511, // PGD
+];
+
+// 2 rho sigma_lnYB of a measure.
+pub fn cross_at(i: usize) -> u64
+    requires { ⌜ i < 24 ⌝ }
+    ensures { λ r. ⌜ r ≡ crossFixed (deviationsAt i) ⌝ }
 {
-    2 * d.rho * at_base(d.s) / 1_000
+    CROSS[i]
 }
 
 // The intra-event variance (15); `rock` is sigma_lnAB. On a linear site alpha is 0 and nothing is
 // added to s².
-pub fn intra_variance(d: Deviations, alpha: i64, rock: u64) -> u64
-    requires { ⌜ OfTable3 d × (natAbs alpha ≤ 2671000367) × (rock ≡ atBaseFixed (deviationsAt PGA .s)) ⌝ }
+pub fn intra_variance(d: Deviations, cross: u64, alpha: i64, rock: u64) -> u64
+    requires { ⌜ OfTable3 d × (cross ≡ crossFixed d) × (natAbs alpha ≤ 2671000367) × (rock ≡ atBaseFixed (deviationsAt PGA .s)) ⌝ }
     ensures { λ r. ⌜ r ≡ up (intraVarianceFixed d alpha) ⌝ }
 {
     let linear = d.s * d.s * 1_000;
@@ -41,7 +70,7 @@ pub fn intra_variance(d: Deviations, alpha: i64, rock: u64) -> u64
         return linear;
     }
     let y = mul_div(rock as i64, alpha, E9);
-    let more = linear as i64 + mul_div(y, y + cross_of(d) as i64, E9);
+    let more = linear as i64 + mul_div(y, y + cross as i64, E9);
     if more < 0 { 0 } else { more as u64 }
 }
 
@@ -51,4 +80,15 @@ pub fn sigma_of(v: u64) -> u64
     ensures { λ r. ⌜ r ≡ sigmaOf v ⌝ }
 {
     (whole_root(4_000 * v) + 1) / 2
+}
+
+// The intra-event sigma (15). On a linear site it is s, and no root is needed.
+pub fn intra_sigma(d: Deviations, alpha: i64, v: u64) -> u64
+    requires { ⌜ OfTable3 d × (v ≡ up (intraVarianceFixed d alpha)) × (v ≤ 2400000000) ⌝ }
+    ensures { λ r. ⌜ r ≡ sigmaOf v ⌝ }
+{
+    if alpha == 0 {
+        return d.s * 1_000;
+    }
+    sigma_of(v)
 }

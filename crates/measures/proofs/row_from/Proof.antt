@@ -1,7 +1,7 @@
 -- Each field by its own function, at figures that are small by the laws of `Sizes`. Assumes nothing.
 use borrow.Author.Needs.{needs}
 use Prim.Native.Nat.{ℕ, _+_, _*_, _^_, _≤_, _<_}
-use mathlib.Core.Path.{_≡_, sym, ap, _∙_}
+use mathlib.Core.Path.{_≡_, sym, ap, subst, _∙_}
 use native.Mathlib.Omega.{arith}
 use native.Mathlib.Nat.{le-trans, mul-le-mul}
 use lib.Dec.{lit≤}
@@ -19,7 +19,7 @@ use Rattle.model.specs.declared.Scenario.{Scenario}
 use Rattle.measures.specs.declared.shared.Shared.{Shared}
 use Rattle.model.specs.Accuracy.{InRange}
 use Rattle.model.specs.Equations.{PGA}
-use Rattle.model.specs.Fixed.{alphaFixed, atBaseFixed, intraVarianceFixed, lnMedianFixed, rockPGAFixed, rowFixed, varianceFixed}
+use Rattle.model.specs.Fixed.{alphaFixed, atBaseFixed, crossFixed, intraVarianceFixed, lnMedianFixed, rockPGAFixed, rowFixed, varianceFixed}
 use Rattle.measures.specs.Sharing.{OfTable3, sharedOf}
 use Rattle.model.proofs.Fair.{fair-at, spread-at}
 use Rattle.model.proofs.Median.{rock-is-near, lnMedian-size}
@@ -85,110 +85,126 @@ alpha-is c =
     let s = c .before .before in
     c .alpha-of .ensures ∙ ap (λ (r : Coefficients). alphaFixed r (s .args .x .vs30) (rockPGAFixed (s .args .x))) (s .pre .1)
 
+cross-at-requires : tie.Need-cross-at-requires
+cross-at-requires c κs = c .before .before .pre .0
+
 intra-variance-requires : tie.Need-intra-variance-requires
 intra-variance-requires c κs =
-    let s = c .before .before in
-    let f = at s in
-    simp (alpha-is c, toZ-ofZ (f .alpha-fits))
-    (record { i = s .args .i; below = s .pre .0; is = s .pre .2 }, f .alpha-small, sigma-is s)
-
-intra-is :
-    (c : tie.After-intra-variance)
-    → c .intra-variance .result ≡ varianceFixed (c .before .before .before .args .i) (c .before .before .before .args .x)
-unfolding varianceFixed
-intra-is c =
     let a = c .before in
     let s = a .before .before in
     let f = at s in
-    (simp (alpha-is a, toZ-ofZ (f .alpha-fits)) at (c .intra-variance .ensures))
-    ∙ ap
-    (λ (d : Deviations). up (intraVarianceFixed d (alphaFixed (coefficientsAt (s .args .i)) (s .args .x .vs30) (rockPGAFixed (s .args .x)))))
-    (s .pre .2)
+    simp (alpha-is a, toZ-ofZ (f .alpha-fits)) (
+      record { i = s .args .i; below = s .pre .0; is = s .pre .2 },
+      c .cross-at .ensures ∙ ap crossFixed (sym (s .pre .2)),
+      f .alpha-small,
+      sigma-is s,
+    )
+
+-- alpha, at the place of the variance
+abbrev alphaAt : tie.After-intra-variance → ℤ
+alphaAt c =
+    let s = c .before .before .before .before in
+    alphaFixed (coefficientsAt (s .args .i)) (s .args .x .vs30) (rockPGAFixed (s .args .x))
+
+-- the variance, of the row handed over and of the measure's number
+variance-here :
+    (c : tie.After-intra-variance)
+    → c .intra-variance .result ≡ up (intraVarianceFixed (c .before .before .before .before .args .d) (alphaAt c))
+variance-here c =
+    let a = c .before .before in
+    let f = at (a .before .before) in
+    simp (alpha-is a, toZ-ofZ (f .alpha-fits)) at (c .intra-variance .ensures)
+
+intra-is :
+    (c : tie.After-intra-variance)
+    → c .intra-variance .result ≡ varianceFixed (c .before .before .before .before .args .i) (c .before .before .before .before .args .x)
+unfolding varianceFixed
+intra-is c =
+    let s = c .before .before .before .before in
+    variance-here c ∙ ap (λ (d : Deviations). up (intraVarianceFixed d (alphaAt c))) (s .pre .2)
 
 mul-total : tie.Need-mul-total
 mul-total c =
-    let a = c .before .before in
-    let s = a .before .before in
+    let s = c .before .before .before .before .before in
     let f = at s in
     rw (s .pre .2) (record { fits = omega (arith, f .t2) })
 
 mul-total-2 : tie.Need-mul-total-2
 mul-total-2 c =
-    let a = c .before .before in
-    let s = a .before .before in
+    let s = c .before .before .before .before .before in
     let f = at s in
     rw (s .pre .2) (record { fits = omega (arith, f .t2) })
 
 add-total : tie.Need-add-total
 add-total c =
-    let a = c .before .before in
-    let s = a .before .before in
+    let v = c .before in
+    let s = v .before .before .before .before in
     let f = at s in
-    rw (intra-is (c .before), s .pre .2) (record { fits = omega (arith, f .t2, f .variance-high) })
+    rw (intra-is v, s .pre .2) (record { fits = omega (arith, f .t2, f .variance-high) })
 
 mul-arbitrary : tie.Need-mul-arbitrary
 mul-arbitrary c =
-    let a = c .before .before .before in
-    let s = a .before .before in
+    let s = c .before .before .before .before .before .before in
     let f = at s in
     rw (s .pre .2) (record { fits = omega (arith, f .sC2) })
 
 mul-arbitrary-2 : tie.Need-mul-arbitrary-2
 mul-arbitrary-2 c =
-    let a = c .before .before .before in
-    let s = a .before .before in
+    let s = c .before .before .before .before .before .before in
     let f = at s in
     rw (s .pre .2) (record { fits = omega (arith, f .sC2) })
 
 add-arbitrary : tie.Need-add-arbitrary
 add-arbitrary c =
-    let a = c .before .before .before in
-    let s = a .before .before in
+    let v = c .before .before in
+    let s = v .before .before .before .before in
     let f = at s in
-    rw (intra-is (c .before .before), s .pre .2)
-    (record { fits = omega (arith, f .t2, f .sC2, f .variance-high) })
+    rw (intra-is v, s .pre .2) (record { fits = omega (arith, f .t2, f .sC2, f .variance-high) })
 
 mul-inter : tie.Need-mul-inter
 mul-inter c =
-    let a = c .before .before .before .before in
-    let s = a .before .before in
+    let s = c .before .before .before .before .before .before .before in
     let f = at s in
     rw (s .pre .2) (record { fits = omega (arith, f .t-high) })
 
 round-div-requires : tie.Need-round-div-requires
 round-div-requires c κs =
-    let a = c .before .before .before .before in
-    let l = a .before in
+    let l = c .before .before .before .before .before .before in
     let f = at (l .before) in
     simp (l .ln-median .ensures, toZ-ofZ (f .ln-fits)) (omega (arith, f .ln-abs), lit≤ tt, lit≤ tt)
 
 exp-fixed-requires : tie.Need-exp-fixed-requires
 exp-fixed-requires c κs =
-    let a = c .before .before .before .before .before in
-    let l = a .before in
+    let l = c .before .before .before .before .before .before .before in
     let f = at (l .before) in
     simp (l .ln-median .ensures, toZ-ofZ (f .ln-fits)) (le-trans (f .ln-high) (lit≤ tt), le-trans (f .ln-low) (lit≤ tt))
 
 at-least-one-requires : tie.Need-at-least-one-requires
 at-least-one-requires c κs = search needs
 
+intra-sigma-requires : tie.Need-intra-sigma-requires
+intra-sigma-requires c κs =
+    let v = c .before .before .before .before .before .before in
+    let a = v .before .before in
+    let s = a .before .before in
+    let f = at s in
+    simp (alpha-is a, toZ-ofZ (f .alpha-fits)) (
+      record { i = s .args .i; below = s .pre .0; is = s .pre .2 },
+      variance-here v,
+      subst (λ (n : ℕ). n ≤ 2400000000) (sym (intra-is v)) (le-trans (f .variance-high) (lit≤ tt)),
+    )
+
 sigma-of-requires : tie.Need-sigma-of-requires
 sigma-of-requires c κs =
-    let v = c .before .before .before .before .before .before in
-    let f = at (v .before .before .before) in
-    rw (intra-is v) (le-trans (f .variance-high) (lit≤ tt))
-
-sigma-of-requires-2 : tie.Need-sigma-of-requires-2
-sigma-of-requires-2 c κs =
     let v = c .before .before .before .before .before .before .before in
-    let s = v .before .before .before in
+    let s = v .before .before .before .before in
     let f = at s in
     rw (intra-is v, s .pre .2) (omega (arith, f .variance-high, f .t2))
 
-sigma-of-requires-3 : tie.Need-sigma-of-requires-3
-sigma-of-requires-3 c κs =
+sigma-of-requires-2 : tie.Need-sigma-of-requires-2
+sigma-of-requires-2 c κs =
     let v = c .before .before .before .before .before .before .before .before in
-    let s = v .before .before .before in
+    let s = v .before .before .before .before in
     let f = at s in
     rw (intra-is v, s .pre .2) (omega (arith, f .variance-high, f .t2, f .sC2))
 
@@ -201,16 +217,16 @@ returns c =
     let e = o .before in
     let r = e .before in
     let v = r .before .before .before .before in
-    let l = v .before .before in
+    let l = v .before .before .before in
     let s = l .before in
     let f = at s in
     simp (
       r .round-div .ensures,
       o .at-least-one .ensures,
       e .exp-fixed .ensures,
-      n .sigma-of .ensures,
-      t .sigma-of2 .ensures,
-      c .sigma-of3 .ensures,
+      n .intra-sigma .ensures,
+      t .sigma-of .ensures,
+      c .sigma-of2 .ensures,
       intra-is v,
       s .pre .2,
       l .ln-median .ensures,
@@ -224,6 +240,7 @@ row-from-spec =
     (tie.spec
     ln-median-requires
     alpha-of-requires
+    cross-at-requires
     intra-variance-requires
     mul-total
     mul-total-2
@@ -235,7 +252,7 @@ row-from-spec =
     round-div-requires
     exp-fixed-requires
     at-least-one-requires
+    intra-sigma-requires
     sigma-of-requires
     sigma-of-requires-2
-    sigma-of-requires-3
     returns)

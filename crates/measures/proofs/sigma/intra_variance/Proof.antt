@@ -19,43 +19,12 @@ use Rattle.tables.specs.Tables.{deviationsAt}
 use Rattle.model.specs.Equations.{PGA}
 use Rattle.model.specs.Fixed.{atBaseFixed, crossFixed, intraVarianceFixed}
 use Rattle.model.proofs.Fair.{Spread}
+use Rattle.measures.proofs.LinearSite.{rockSigma, yOf, squareOf, addedOf, flat}
 use Rattle.measures.proofs.OfTables.{spread-of}
 use Rattle.model.proofs.Sizes.{y-fits}
 use Rattle.model.proofs.Variance.{rock-sigma-le}
 use Rattle.measures.proofs.sigma.intra_variance.Statement.{statement}
 use Rattle.measures.proofs.sigma.intra_variance.Tie as tie
-
--- ---- the definition's steps
--- sigma_lnAB
-abbrev rockSigma : ℕ
-rockSigma = atBaseFixed (deviationsAt PGA .s)
-
--- alpha sigma_lnAB
-abbrev yOf : ℤ → ℤ
-yOf a = mulDiv (pos rockSigma) a (pos E9)
-
--- s²
-abbrev squareOf : Deviations → ℕ
-squareOf d = d .s * d .s * 1000
-
--- what is added to s²
-abbrev addedOf : Deviations → ℤ → ℤ
-addedOf d a = mulDiv (yOf a) (yOf a +ℤ pos (crossFixed d)) (pos E9)
-
--- nothing is where alpha is 0
-flat : (d : Deviations) → squareOf d ≡ up (intraVarianceFixed d (pos 0))
-unfolding intraVarianceFixed
-flat d =
-    let none : yOf (pos 0) ≡ pos 0 = mulDiv-zero (pos rockSigma) (pos 0) (pos E9) (omega (arith, mul-zero rockSigma)) in
-    let more : mulDiv (pos 0) (pos 0 +ℤ pos (crossFixed d)) (pos E9) ≡ pos 0 =
-    mulDiv-zero (pos 0) (pos 0 +ℤ pos (crossFixed d)) (pos E9) (omega (arith, zero-mul (natAbs (pos 0 +ℤ pos (crossFixed d))))) in
-    sym
-    (ap (λ (y : ℤ). up (pos (squareOf d) +ℤ mulDiv y (y +ℤ pos (crossFixed d)) (pos E9))) none
-    ∙ ap (λ (z : ℤ). up (pos (squareOf d) +ℤ z)) more
-    ∙ plain (squareOf d))
-  where
-    plain : (n : ℕ) → n + 0 ≡ n
-    plain n = omega arith
 
 -- ---- their sizes
 record Steps (d : Deviations) (a : ℤ) : Type 0 where
@@ -86,7 +55,7 @@ steps d a f h =
     }
 
 here : (c : tie.Start) → Steps (c .args .d) (c .args .alpha)
-here c = steps (c .args .d) (c .args .alpha) (spread-of (c .args .d) (c .pre .0)) (c .pre .1)
+here c = steps (c .args .d) (c .args .alpha) (spread-of (c .args .d) (c .pre .0)) (c .pre .2)
 
 mul-linear : tie.Need-mul-linear
 mul-linear c = record { fits = omega (arith, here (c .before) .square-low) }
@@ -103,7 +72,7 @@ returns c =
 
 -- ---- and not
 rock-le : (c : tie.Start) → c .args .rock ≤ 372134384
-rock-le c = omega (arith, c .pre .2, rock-sigma-le)
+rock-le c = omega (arith, c .pre .3, rock-sigma-le)
 
 cast-mul-div : tie.Need-cast-mul-div
 cast-mul-div c = record { sfits = omega (arith, rock-le (c .before .before)) }
@@ -112,70 +81,67 @@ mul-div-requires : tie.Need-mul-div-requires
 mul-div-requires c κs =
     let s = c .before .before in
     rw (toZ-pos w64 (cast-mul-div c .sfits), toZ-ofZ (s .fits .alpha))
-    (omega (arith, mul-le-mul (rock-le s) (s .pre .1)), lit≤ tt)
+    (omega (arith, mul-le-mul (rock-le s) (s .pre .2)), lit≤ tt)
 
 -- the code's y
 y-is : (c : tie.After-mul-div) → c .mul-div .result ≡ yOf (c .before .before .before .args .alpha)
 y-is c =
     let s = c .before .before .before in
     c .mul-div .ensures
-    ∙ rw (toZ-pos w64 (cast-mul-div (c .before) .sfits), toZ-ofZ (s .fits .alpha), s .pre .2)
+    ∙ rw (toZ-pos w64 (cast-mul-div (c .before) .sfits), toZ-ofZ (s .fits .alpha), s .pre .3)
 
 cast-more : tie.Need-cast-more
 cast-more c = record { sfits = omega (arith, here (c .before .before .before) .square-low) }
 
-cross-of-requires : tie.Need-cross-of-requires
-cross-of-requires c κs = search needs
-
-cross-le : (c : tie.After-cross-of) → c .cross-of .result ≤ 800000000
-cross-le c = omega (arith, c .cross-of .ensures, here (c .before .before .before .before) .cross-low)
+cross-le : (c : tie.Start) → c .args .cross ≤ 800000000
+cross-le c = omega (arith, c .pre .1, here c .cross-low)
 
 cast-mul-div-2 : tie.Need-cast-mul-div-2
-cast-mul-div-2 c = record { sfits = omega (arith, cross-le c) }
+cast-mul-div-2 c = record { sfits = omega (arith, cross-le (c .before .before .before)) }
 
 -- y and its sum, as the machine reads them
 y-read : (c : tie.After-mul-div) → toZ w64 (ofZ w64 (c .mul-div .result)) ≡ yOf (c .before .before .before .args .alpha)
 y-read c = rw (y-is c) (toZ-ofZ (here (c .before .before .before) .y-in))
 
-cross-read : (c : tie.After-cross-of) → toZ w64 (c .cross-of .result) ≡ pos (crossFixed (c .before .before .before .before .args .d))
-cross-read c = toZ-pos w64 (cast-mul-div-2 c .sfits) ∙ ap pos (c .cross-of .ensures)
+cross-read : (c : tie.After-mul-div) → toZ w64 (c .before .before .before .args .cross) ≡ pos (crossFixed (c .before .before .before .args .d))
+cross-read c = toZ-pos w64 (cast-mul-div-2 c .sfits) ∙ ap pos (c .before .before .before .pre .1)
 
 add-mul-div : tie.Need-add-mul-div
-add-mul-div c = rw (y-read (c .before), cross-read c) (here (c .before .before .before .before) .sum-in)
+add-mul-div c = rw (y-read c, cross-read c) (here (c .before .before .before) .sum-in)
 
 mul-div-requires-2 : tie.Need-mul-div-requires-2
 mul-div-requires-2 c κs =
-    let f = here (c .before .before .before .before) in
-    rw (y-read (c .before), cross-read c, toZ-ofZ (f .sum-in)) (f .product, lit≤ tt)
+    let f = here (c .before .before .before) in
+    rw (y-read c, cross-read c, toZ-ofZ (f .sum-in)) (f .product, lit≤ tt)
 
 -- what the code adds to s²
 added-is :
     (c : tie.After-mul-div2)
     → c .mul-div2 .result
-    ≡ addedOf (c .before .before .before .before .before .args .d) (c .before .before .before .before .before .args .alpha)
+    ≡ addedOf (c .before .before .before .before .args .d) (c .before .before .before .before .args .alpha)
 added-is c =
     let x = c .before in
-    let f = here (x .before .before .before .before) in
-    c .mul-div2 .ensures ∙ rw (y-read (x .before), cross-read x, toZ-ofZ (f .sum-in))
+    let f = here (x .before .before .before) in
+    c .mul-div2 .ensures ∙ rw (y-read x, cross-read x, toZ-ofZ (f .sum-in))
 
 -- the code's sum
 abbrev moreOf : tie.After-mul-div2 → ℤ
 moreOf c =
-    toZ w64 (squareOf (c .before .before .before .before .before .args .d)) +ℤ toZ w64 (ofZ w64 (c .mul-div2 .result))
+    toZ w64 (squareOf (c .before .before .before .before .args .d)) +ℤ toZ w64 (ofZ w64 (c .mul-div2 .result))
 
 more-is :
     (c : tie.After-mul-div2)
     → moreOf c
-    ≡ intraVarianceFixed (c .before .before .before .before .before .args .d) (c .before .before .before .before .before .args .alpha)
+    ≡ intraVarianceFixed (c .before .before .before .before .args .d) (c .before .before .before .before .args .alpha)
 unfolding intraVarianceFixed
 more-is c =
-    let f = here (c .before .before .before .before .before) in
-    rw (toZ-pos w64 (cast-more (c .before .before) .sfits), added-is c, toZ-ofZ (f .added-in))
+    let f = here (c .before .before .before .before) in
+    rw (toZ-pos w64 (cast-more (c .before) .sfits), added-is c, toZ-ofZ (f .added-in))
 
 add-more : tie.Need-add-more
 add-more c =
-    let f = here (c .before .before .before .before .before) in
-    rw (toZ-pos w64 (cast-more (c .before .before) .sfits), added-is c, toZ-ofZ (f .added-in)) (f .whole-in)
+    let f = here (c .before .before .before .before) in
+    rw (toZ-pos w64 (cast-more (c .before) .sfits), added-is c, toZ-ofZ (f .added-in)) (f .whole-in)
 
 -- not below 0
 positive : (c : tie.Else2) → dn (moreOf (c .before)) ≡ 0
@@ -209,7 +175,6 @@ intra-variance-spec =
     cast-mul-div
     mul-div-requires
     cast-more
-    cross-of-requires
     cast-mul-div-2
     add-mul-div
     mul-div-requires-2

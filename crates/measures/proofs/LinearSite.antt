@@ -1,0 +1,61 @@
+-- The steps of the intra-event variance, and a linear site: with alpha 0 nothing is added to s², and its root is s. Assumes nothing.
+use Prim.Native.Nat.{ℕ, _+_, _*_, _/_, _≤_, _<_}
+use mathlib.Core.Path.{_≡_, sym, ap, _∙_}
+use native.Mathlib.Omega.{arith}
+use native.Mathlib.Nat.{le-refl, mul-zero, zero-mul, mul-mul-mul-comm, add-mul, mul-add, mul-one, one-mul}
+use lib.IntN.{ℤ, pos, natAbs, _+ℤ_}
+use Rattle.exact.specs.Near.{up}
+use Rattle.exact.specs.Root.{root}
+use Rattle.exact.proofs.Root.{root-unique}
+use Rattle.reckon.specs.Fixed.{E9, mulDiv}
+use Rattle.reckon.proofs.SignedLaws.{mulDiv-zero}
+use Rattle.tables.specs.declared.Deviations.{Deviations}
+use Rattle.tables.specs.Tables.{deviationsAt}
+use Rattle.model.specs.Equations.{PGA}
+use Rattle.model.specs.Fixed.{atBaseFixed, crossFixed, intraVarianceFixed, sigmaOf}
+
+-- ---- the steps
+-- sigma_lnAB
+abbrev pub rockSigma : ℕ
+rockSigma = atBaseFixed (deviationsAt PGA .s)
+
+-- alpha sigma_lnAB
+abbrev pub yOf : ℤ → ℤ
+yOf a = mulDiv (pos rockSigma) a (pos E9)
+
+-- s²
+abbrev pub squareOf : Deviations → ℕ
+squareOf d = d .s * d .s * 1000
+
+-- what is added to s²
+abbrev pub addedOf : Deviations → ℤ → ℤ
+addedOf d a = mulDiv (yOf a) (yOf a +ℤ pos (crossFixed d)) (pos E9)
+
+-- nothing is where alpha is 0
+pub flat : (d : Deviations) → squareOf d ≡ up (intraVarianceFixed d (pos 0))
+unfolding intraVarianceFixed
+flat d =
+    let none : yOf (pos 0) ≡ pos 0 = mulDiv-zero (pos rockSigma) (pos 0) (pos E9) (omega (arith, mul-zero rockSigma)) in
+    let more : mulDiv (pos 0) (pos 0 +ℤ pos (crossFixed d)) (pos E9) ≡ pos 0 =
+    mulDiv-zero (pos 0) (pos 0 +ℤ pos (crossFixed d)) (pos E9) (omega (arith, zero-mul (natAbs (pos 0 +ℤ pos (crossFixed d))))) in
+    sym
+    (ap (λ (y : ℤ). up (pos (squareOf d) +ℤ mulDiv y (y +ℤ pos (crossFixed d)) (pos E9))) none
+    ∙ ap (λ (z : ℤ). up (pos (squareOf d) +ℤ z)) more
+    ∙ plain (squareOf d))
+  where
+    plain : (n : ℕ) → n + 0 ≡ n
+    plain n = omega arith
+
+-- ---- the root of a square
+own-root : (r : ℕ) → root (r * r) ≡ r
+own-root r = sym (root-unique (r * r) r (record { low = le-refl (r * r); high = bigger }))
+  where
+    bigger : r * r < (r + 1) * (r + 1)
+    bigger = simp (add-mul, mul-add, mul-one, one-mul) (omega arith)
+
+square-is : (s : ℕ) → 4000 * (s * s * 1000) ≡ 2000 * s * (2000 * s)
+square-is s = omega (arith, mul-mul-mul-comm 2000 s 2000 s)
+
+pub whole-sigma : (s : ℕ) → sigmaOf (s * s * 1000) ≡ s * 1000
+unfolding sigmaOf
+whole-sigma s = ap (λ (t : ℕ). (t + 1) / 2) (ap root (square-is s) ∙ own-root (2000 * s)) ∙ omega arith
