@@ -1,7 +1,8 @@
 #!/usr/bin/env python3
 """Runs requests through the proved programs and through the second program and compares every answer.
 
-    python3 second/compare.py SEED COUNT [--tight] [--complete COMMAND] [--predict COMMAND | --no-predict] [--second PATH]
+    python3 second/compare.py SEED COUNT [--tight] [--complete COMMAND] [--predict COMMAND | --no-predict] [--rows COMMAND]
+        [--second PATH]
 
 COMMAND is a path with its arguments, by default target/bin/complete and target/bin/predict; the second program is compiled unless its
 path is given. Exit 1 on any difference beyond its bound:
@@ -12,8 +13,9 @@ path is given. Exit 1 on any difference beyond its bound:
   figures before it;
 - a refusal: the same number. The one exception is document 01's: where a completed figure is read, the second program is asked at each
   whole metre that the figure's bound allows, and the first program must have answered as one of these;
-- ln median and total sigma: 5 millionths, --tight 1; the median: 1 + Y/100000, --tight 1 + Y/500000; from the second program's figure
-  before it is rounded, at the figures that the first completed. The predicting program prints these three, so no other is compared.
+- ln median and the sigmas: 5 millionths, --tight 1; the median: 1 + Y/100000, --tight 1 + Y/500000; from the second program's figure
+  before it is rounded, at the figures that the first completed. The predicting program prints ln median, median and total sigma;
+  --rows names a program that prints all six figures of a row, as c/rows.c does with the static library.
 """
 import argparse
 import collections
@@ -30,6 +32,8 @@ OK = re.compile(rb"ok" + 5 * WHOLE + rb" ([eg]{5})\Z")
 FIGURES = re.compile(rb"ok" + 5 * WHOLE + rb" ([eg]{5})" + 4 * WHOLE + rb"\Z")
 NO = re.compile(rb"no ([1-9]\d*)\Z")
 COLUMNS = ["dip", "w", "ztor", "rrup", "z25"]
+ROW = ["ln median", "median", "intra sigma", "inter sigma", "total sigma", "arbitrary sigma"]
+PRINTED = ["ln median", "median", "total sigma"]
 MEASURES = 24
 SHOWN = 10
 
@@ -220,8 +224,8 @@ class Comparison:
         if p.figures["z25"] != found[0].figures["z25"] and not fields["z25"] == fields["z15"] == fields["z10"] == "-":
             report.fail(line, f"{p} where the second program has {found[0]}")
 
-    def predicting(self, words, data, lines, completed, bounds):
-        """Compares predictions at the figures that the first program completed."""
+    def predicting(self, words, names, data, lines, completed, bounds):
+        """Compares predictions, with the figures named, at the figures that the first program completed."""
         report = self.report
         given = [at_figures(fields_of(line), p.figures, COLUMNS) for line, p in zip(lines, completed) if p and p.refusal == 0]
         second = run([self.second, "fine"], listed(map(line_of, given))).split(b"\n")
@@ -241,12 +245,12 @@ class Comparison:
                 continue
             mine, others = first[at:at + MEASURES], second[theirs:theirs + MEASURES]
             at, theirs = at + MEASURES, theirs + MEASURES
-            if not self.spectrum(line, mine, others, bounds):
+            if not self.spectrum(line, names, mine, others, bounds):
                 return
         if at != len(first):
             report.fail(b"", f"{len(first) - at} lines too many")
 
-    def spectrum(self, line, mine, others, bounds):
+    def spectrum(self, line, names, mine, others, bounds):
         """Compares the 24 lines of one prediction with the second program's in thousandths; whether they have the form."""
         millionths, share = bounds
         if len(mine) != MEASURES:
@@ -254,16 +258,18 @@ class Comparison:
             return False
         for measure, (a, b) in enumerate(zip(mine, others)):
             try:
-                number, ln, y, sigma = map(int, a.split(b" "))
+                number, *figures = map(int, a.split(b" "))
             except ValueError:
-                number = None
-            if number != measure or b"%d %d %d %d" % (measure, ln, y, sigma) != a or y < 1:
+                number, figures = None, []
+            if number != measure or len(figures) != len(names) or b" ".join(b"%d" % n for n in (number, *figures)) != a:
                 self.report.fail(line, f"another form at measure {measure}: {a!r}")
                 return False
-            _, fine_ln, fine_y, fine_sigma = map(int, b.split(b" "))
-            self.report.row(line, "ln median", measure, ln - fine_ln / 1000, millionths)
-            self.report.row(line, "median", measure, y - fine_y / 1000, 1 + fine_y / 1000 / share)
-            self.report.row(line, "total sigma", measure, sigma - fine_sigma / 1000, millionths)
+            fine = dict(zip(ROW, map(int, b.split(b" ")[1:])))
+            for name, figure in zip(names, figures):
+                bound = 1 + fine[name] / 1000 / share if name == "median" else millionths
+                self.report.row(line, name, measure, figure - fine[name] / 1000, bound)
+                if name == "median" and figure < 1:
+                    self.report.fail(line, f"a median below 1 at measure {measure}")
         return True
 
     def short_lists(self, predict):
@@ -291,7 +297,7 @@ def tell(report, accepted, predicted):
     for name in COLUMNS[1:]:
         print(f"{name}: {report.count[name]} estimated, from {report.low[name]:.3f} to {report.high[name]:.3f} m off, bound {METRES}")
     print(f"{report.count['apart']} answers differ, {report.count['refused']} of them in being refused")
-    for name in ("ln median", "median", "total sigma") if predicted else ():
+    for name in predicted:
         worst = max(range(MEASURES), key=lambda m: report.high[name, m])
         print(f"{name}: {MEASURES * accepted} compared, worst {report.high[name, worst]:.3f} of its bound, at measure {worst}; by measure:")
         print("  " + " ".join(f"{report.high[name, m]:.3f}" for m in range(MEASURES)))
@@ -309,6 +315,7 @@ def main():
     options.add_argument("--complete", default=os.path.join(ROOT, "target/bin/complete"))
     options.add_argument("--predict", default=os.path.join(ROOT, "target/bin/predict"))
     options.add_argument("--no-predict", action="store_true", help="compare completed requests alone")
+    options.add_argument("--rows", help="a program that prints all six figures of a row")
     options.add_argument("--second")
     given = options.parse_args()
 
@@ -318,8 +325,11 @@ def main():
     data = requests(given.seed, given.count)
     lines = data.split(b"\n")
     completed = comparison.completing(data, lines) or []
+    bounds = (1, 500000) if given.tight else (5, 100000)
     if completed and predict:
-        comparison.predicting(predict, data, lines, completed, (1, 500000) if given.tight else (5, 100000))
+        comparison.predicting(predict, PRINTED, data, lines, completed, bounds)
+    if completed and given.rows:
+        comparison.predicting(command(given.rows), ROW, data, lines, completed, bounds)
     comparison.short_lists(predict)
 
     patterns, refusals = covered(lines, completed)
@@ -328,7 +338,7 @@ def main():
     print("refused: " + ", ".join(f"{n} by {number}" for number, n in sorted(refusals.items())))
     if given.count >= 20000 and (len(patterns) < 256 or len(refusals) < 14):
         report.fail(b"", "the list leaves out a pattern or a refusal")
-    tell(report, accepted, predict)
+    tell(report, accepted, ROW if given.rows else PRINTED if predict else [])
     sys.exit(1 if report.failures else 0)
 
 

@@ -3,7 +3,7 @@
        second complete    document 01's completing program
        second predict     document 01's predicting program
        second rows        as predict, with all six figures of a row: ln median, median, intra, inter, total, arbitrary
-       second fine        as predict, each figure in thousandths of its reported unit
+       second fine        as rows, each figure in thousandths of its reported unit
        second figures     as complete, what was estimated untested (see request.c), with W, ZTOR, RRUP and Z2.5 in mm behind it */
 #include <math.h>
 #include <stdio.h>
@@ -79,7 +79,8 @@ static void answer_fine(const struct request *request) {
     int count = spectrum_of(request, spectrum);
     for (int k = 0; k < count; k++) {
         const struct prediction *p = &spectrum[k];
-        printf("%d %lld %lld %lld\n", k, llround(p->ln_median * 1e9), llround(p->median * 1e13), llround(p->total * 1e9));
+        printf("%d %lld %lld %lld %lld %lld %lld\n", k, llround(p->ln_median * 1e9), llround(p->median * 1e13), llround(p->intra * 1e9),
+            llround(p->inter * 1e9), llround(p->total * 1e9), llround(p->arbitrary * 1e9));
     }
 }
 

@@ -1,0 +1,165 @@
+/* Calls at the edges of what xanhupive.h promises: NULL with length 0, every length that is too short,
+ * numbers and bytes around the lent part, the order of the refusals. Whatever is lent ends at a page
+ * that may not be touched, so that a byte read or written past it ends the run. */
+#define _DEFAULT_SOURCE
+#include <stdint.h>
+#include <stdio.h>
+#include <string.h>
+#include <sys/mman.h>
+#include <unistd.h>
+
+#include "xanhupive.h"
+
+static unsigned passed;
+static unsigned failed;
+
+static void expect(int holds, const char *what)
+{
+    if (holds) {
+        passed++;
+    } else {
+        failed++;
+        printf("FAILED: %s\n", what);
+    }
+}
+
+/* The end of a readable page, behind which nothing may be touched. */
+static uint8_t *page_end(void)
+{
+    size_t page = (size_t)sysconf(_SC_PAGESIZE);
+    uint8_t *at = mmap(NULL, 2 * page, PROT_READ | PROT_WRITE, MAP_PRIVATE | MAP_ANONYMOUS, -1, 0);
+    if (at == MAP_FAILED || mprotect(at + page, page, PROT_NONE) != 0) {
+        perror("mmap");
+        _exit(1);
+    }
+    return at + page;
+}
+
+static int all_are(const uint8_t *from, const uint8_t *to, uint8_t value)
+{
+    while (from < to && *from == value) {
+        from++;
+    }
+    return from == to;
+}
+
+static const uint8_t *line;
+static size_t length;
+
+/* A request line at the end of a page. */
+static void request(uint8_t *end, const char *text)
+{
+    length = strlen(text);
+    memcpy(end - length, text, length);
+    line = end - length;
+}
+
+typedef size_t answer_function(const uint8_t *, size_t, uint8_t *, size_t);
+
+/* Every length up to the answer's: refused, no byte changed. Its own, and more: written, the bytes
+ * around it as they were. */
+static void every_length(answer_function *answer, const char *text, size_t bytes, uint8_t *end)
+{
+    const uint8_t mark = 0xa5;
+    const size_t around = 64;
+    for (size_t lent = 0; lent < bytes; lent++) {
+        memset(end - lent - around, mark, lent + around);
+        expect(answer(line, length, end - lent, lent) == 0, "a short buffer gives 0");
+        expect(all_are(end - lent - around, end, mark), "a short buffer is as it was");
+    }
+    for (size_t more = 0; more <= around; more += around) {
+        uint8_t *out = end - bytes - more;
+        memset(out - around, mark, around + bytes + more);
+        expect(answer(line, length, out, bytes + more) == bytes, "an answer has its length");
+        expect(memcmp(out, text, bytes) == 0, "an answer has its bytes");
+        expect(all_are(out - around, out, mark), "the bytes before are as they were");
+        expect(all_are(out + bytes, end, mark), "the bytes behind are as they were");
+    }
+}
+
+static void null_with_length_0(uint8_t *end)
+{
+    uint8_t out[8] = {0};
+    expect(xanhupive_complete_line(NULL, 0, out, sizeof out) == 6 && memcmp(out, "no 14\n", 7) == 0, "the empty line completed");
+    memset(out, 0, sizeof out);
+    expect(xanhupive_predict_line(NULL, 0, out, sizeof out) == 6 && memcmp(out, "no 14\n", 7) == 0, "the empty line predicted");
+    double median = -1.0;
+    double total = -2.0;
+    expect(xanhupive_measure(NULL, 0, 21, &median, &total) == XANHUPIVE_MALFORMED, "a measure of the empty line");
+    expect(median == -1.0 && total == -2.0, "a refused measure changes nothing");
+    expect(xanhupive_spectrum(NULL, 0, NULL, 0) == XANHUPIVE_MALFORMED, "14 comes before 16");
+
+    request(end, "650 0 760 - 10000 - 3000 4000 30 - - - 2000");
+    expect(xanhupive_complete_line(line, length, NULL, 0) == 0, "no room to complete");
+    expect(xanhupive_predict_line(line, length, NULL, 0) == 0, "no room to predict");
+    expect(xanhupive_spectrum(line, length, NULL, 0) == XANHUPIVE_TOO_LONG, "no room for a spectrum");
+    request(end, "851 0 760 - 10000 - 3000 4000 30 - - - 2000");
+    expect(xanhupive_spectrum(line, length, NULL, 0) == 2, "2 comes before 16");
+}
+
+static void one_measure(uint8_t *end)
+{
+    const uint64_t nan_bits = UINT64_C(0x7ff800000000abcd);
+    double median;
+    double total;
+    uint64_t bits;
+    memcpy(&median, &nan_bits, sizeof median);
+    total = -0.0;
+    request(end, "650 0 760 - 10000 - 3000 4000 30 - - - 2000");
+    expect(xanhupive_measure(line, length, 24, &median, &total) == XANHUPIVE_NO_MEASURE, "measure 24");
+    expect(xanhupive_measure(line, length, UINT64_MAX, &median, &total) == XANHUPIVE_NO_MEASURE, "the largest measure");
+    request(end, "851 0 760 - 10000 - 3000 4000 30 - - - 2000");
+    expect(xanhupive_measure(line, length, 24, &median, &total) == 2, "2 comes before 15");
+    request(end, "851 0 760 - 10000 - 3000 4000 30 - - - 2000\n");
+    expect(xanhupive_measure(line, length, 24, &median, &total) == XANHUPIVE_MALFORMED, "a line with its LF is malformed");
+    memcpy(&bits, &median, sizeof bits);
+    expect(bits == nan_bits && total == 0.0 && 1.0 / total < 0.0, "a NaN and -0.0 are as they were");
+}
+
+static void spectrum(uint8_t *end, uint8_t *numbers_end)
+{
+    const uint8_t mark = 0xa5;
+    double *last = (double *)(void *)numbers_end;
+    for (size_t lent = 0; lent < XANHUPIVE_NUMBERS; lent++) {
+        memset(last - lent - 8, mark, (lent + 8) * sizeof *last);
+        request(end, "650 0 760 - 10000 - 3000 4000 30 - - - 2000");
+        expect(xanhupive_spectrum(line, length, last - lent, lent) == XANHUPIVE_TOO_LONG, "too few numbers");
+        expect(all_are((uint8_t *)(last - lent - 8), numbers_end, mark), "too few numbers are as they were");
+    }
+    for (size_t more = 0; more <= 8; more += 8) {
+        double *rows = last - XANHUPIVE_NUMBERS - more;
+        memset(rows - 8, mark, (8 + XANHUPIVE_NUMBERS + more) * sizeof *last);
+        request(end, "650 90 300 40 10000 - 3000 0 90 - - - 2000");
+        expect(xanhupive_spectrum(line, length, rows, XANHUPIVE_NUMBERS + more) == 10, "a refused request");
+        expect(all_are((uint8_t *)(rows - 8), numbers_end, mark), "a refused request changes nothing");
+        request(end, "650 0 760 - 10000 - 3000 4000 30 - - - 2000");
+        expect(xanhupive_spectrum(line, length, rows, XANHUPIVE_NUMBERS + more) == 0, "a spectrum");
+        expect(all_are((uint8_t *)(rows - 8), (uint8_t *)rows, mark), "the numbers before are as they were");
+        expect(all_are((uint8_t *)(rows + XANHUPIVE_NUMBERS), numbers_end, mark), "the numbers behind are as they were");
+        for (uint64_t k = 0; k < XANHUPIVE_MEASURES; k++) {
+            double median = -1.0;
+            double total = -1.0;
+            expect(xanhupive_measure(line, length, k, &median, &total) == 0, "each measure");
+            expect(median == rows[6 * k + 1] && total == rows[6 * k + 4], "a measure alone is that of the spectrum");
+        }
+    }
+}
+
+int main(void)
+{
+    uint8_t *line_end = page_end();
+    uint8_t *out_end = page_end();
+    null_with_length_0(line_end);
+    request(line_end, "650 0 760 - 10000 - 3000 4000 30 - - - 2000");
+    every_length(xanhupive_complete_line, "ok 90 10000 3000 5000 2000 eggeg\n", 33, out_end);
+    uint8_t prediction[XANHUPIVE_LONGEST_ANSWER] = {0};
+    size_t bytes = xanhupive_predict_line(line, length, prediction, sizeof prediction);
+    every_length(xanhupive_predict_line, (const char *)prediction, bytes, out_end);
+    request(line_end, "no request");
+    every_length(xanhupive_complete_line, "no 14\n", 6, out_end);
+    every_length(xanhupive_predict_line, "no 14\n", 6, out_end);
+    one_measure(line_end);
+    spectrum(line_end, out_end);
+    printf("edges: %u passed, %u failed\n", passed, failed);
+    return failed != 0;
+}

@@ -1,0 +1,5 @@
+pub mod PlaceLaws
+pub mod LineLaws
+pub mod MeasureLaws
+pub mod SpectrumLaws
+pub mod OneAnswer

@@ -1,0 +1,95 @@
+-- The count of a line that was written is that of its bytes; 0 says that it was refused and nothing else, as no answer is empty; and 38
+-- bytes for a completion, 912 for a prediction, are always enough. Assumes nothing.
+use Prim.Native.Nat.{ℕ, _≤_, _<_}
+use mathlib.Core.Path.{_≡_, refl, ap, _∙_}
+use mathlib.Core.Bool.{Bool, true, false}
+use mathlib.Core.List.{List}
+use mathlib.Core.Logic.{_↔_}
+use native.Mathlib.Omega.{arith}
+use lib.Dec.{ltb, eqb}
+use lib.ListN.{length, getD, length-append}
+use borrow.Author.Tests.{lt-ltb, le-ltb, ltb-true, ltb-false, eqb-true, eqb-false}
+use Rattle.completion.specs.declared.Completion.{Completion}
+use Rattle.completion.specs.declared.Completion.the-variants as C
+use Rattle.completion.specs.Answers.{completionOf}
+use Rattle.model.specs.declared.Row.{Row}
+use Rattle.model.specs.Fixed.{noRow}
+use Rattle.prediction.specs.declared.Spectrum.{Spectrum}
+use Rattle.prediction.specs.Spectra.{spectrumOf}
+use Rattle.text.specs.declared.read.Line.{Line}
+use Rattle.text.specs.declared.read.Line.the-variants as L
+use Rattle.text.specs.Grammar.{lineOf}
+use Rattle.answer.specs.declared.Wrote.{Wrote}
+use Rattle.answer.specs.declared.Sheet.{Sheet}
+use Rattle.answer.specs.declared.Sheet.the-variants as S
+use Rattle.answer.specs.Lines.{completionLine, wrote, LineWritten}
+use Rattle.answer.specs.RowLines.{rowLine, rowLines, spectrumLines}
+use Rattle.answer.specs.Sheets.{sheetOf, replyOf, answerTo, longestAnswer}
+use Rattle.answer.proofs.LineLaws.{length-ok, length-no}
+use Rattle.answer.proofs.RowLaws.{length-row, refused-line, good-lines}
+use Rattle.answer.proofs.LongestAnswer.{answer-short}
+use Rattle.export.specs.Given.{countOf, fitting, LineGiven}
+
+-- ---- the count
+count-fitting : (n : ℕ) (s : List ℕ) → countOf (wrote n s) ≡ fitting n s
+unfolding countOf wrote fitting
+count-fitting n s = go (ltb n (length s)) refl
+  where
+    go : (t : Bool) → ltb n (length s) ≡ t → countOf (wrote n s) ≡ fitting n s
+    go true e = rw e
+    go false e = rw e
+
+-- what a line writer promises, its answer counted
+pub line-given : {b s : List ℕ} {w : Wrote} {b₁ : List ℕ} (n : ℕ) → LineWritten b s w b₁ → n ≡ countOf w → LineGiven b s n b₁
+line-given {b} {s} n w e = record { count = e ∙ ap countOf (w .answer) ∙ count-fitting (length b) s; bytes = w .bytes }
+
+-- ---- no answer is empty
+some-completion : (c : Completion) → 0 < length (completionLine c)
+unfolding completionLine
+some-completion (C.Done c) = omega (arith, length-ok c)
+some-completion (C.Refused n) = omega (arith, length-no n)
+
+some-rows : (rows : List Row) → 0 < length (rowLines 24 rows)
+unfolding rowLines
+some-rows rows =
+    omega (arith, length-append (rowLines 23 rows) (rowLine 23 (getD rows 23 noRow)), length-row 23 (getD rows 23 noRow))
+
+some-spectrum : (s : Spectrum) → 0 < length (spectrumLines s)
+some-spectrum s = go (eqb (s .refusal) 0) refl
+  where
+    go : (t : Bool) → eqb (s .refusal) 0 ≡ t → 0 < length (spectrumLines s)
+    go true e = omega (arith, ap length (good-lines s (eqb-true (s .refusal) 0 e)), some-rows (s .rows))
+    go false e = omega (arith, ap length (refused-line s (eqb-false (s .refusal) 0 e)), length-no (s .refusal))
+
+some-reply : (sheet : Sheet) (l : Line) → 0 < length (replyOf sheet l)
+unfolding replyOf sheetOf
+some-reply S.Completion (L.Is r) = some-completion (completionOf r)
+some-reply S.Prediction (L.Is r) = some-spectrum (spectrumOf r)
+some-reply S.Completion L.Malformed = omega (arith, length-no 14)
+some-reply S.Prediction L.Malformed = omega (arith, length-no 14)
+
+pub some-answer : (sheet : Sheet) (s : List ℕ) → 0 < length (answerTo sheet s)
+unfolding answerTo
+some-answer sheet s = some-reply sheet (lineOf s)
+
+-- ---- what the count says
+module _ {b s : List ℕ} {n : ℕ} {b₁ : List ℕ} (g : LineGiven b s n b₁) where
+  pub count-refused : length b < length s → n ≡ 0
+  unfolding fitting
+  count-refused h = g .count ∙ rw (lt-ltb (length b) (length s) h)
+
+  pub count-written : length s ≤ length b → n ≡ length s
+  unfolding fitting
+  count-written h = g .count ∙ rw (le-ltb (length b) (length s) h)
+
+module _ (sheet : Sheet) (line : List ℕ) {b : List ℕ} {n : ℕ} {b₁ : List ℕ} (g : LineGiven b (answerTo sheet line) n b₁) where
+  pub zero-exactly : (n ≡ 0) ↔ (length b < length (answerTo sheet line))
+  zero-exactly = (λ e. go e (ltb (length b) (length (answerTo sheet line))) refl, count-refused g)
+    where
+      go : n ≡ 0 → (t : Bool) → ltb (length b) (length (answerTo sheet line)) ≡ t → length b < length (answerTo sheet line)
+      go e true h = ltb-true (length b) (length (answerTo sheet line)) h
+      go e false h =
+          omega (arith, count-written g (ltb-false (length b) (length (answerTo sheet line)) h), some-answer sheet line)
+
+  pub always-room : longestAnswer sheet ≤ length b → n ≡ length (answerTo sheet line)
+  always-room h = count-written g (omega (arith, answer-short sheet line))

@@ -1,0 +1,75 @@
+-- What each answer for one measure leaves in the lent numbers; 0 is no refusal's number. Assumes nothing.
+use Prim.Native.Nat.{ℕ}
+use mathlib.Core.Path.{_≡_, refl, sym, ap, subst, _∙_}
+use mathlib.Core.Bool.{Bool, true, false}
+use native.Mathlib.Omega.{arith}
+use lib.Dec.{ltb}
+use lib.Ieee.{Float}
+use borrow.Author.Tests.{ltb-true, ltb-false}
+use Rattle.request.specs.declared.Request.{Request}
+use Rattle.completion.specs.declared.Completed.{Completed}
+use Rattle.completion.specs.declared.Completion.the-variants as C
+use Rattle.completion.specs.Answers.{completionOf, numberOf}
+use Rattle.completion.proofs.ExactlyWhen.{number-is, accepted-by}
+use Rattle.model.specs.declared.Row.{Row}
+use Rattle.model.specs.Fixed.{rowFixed}
+use Rattle.text.specs.declared.read.Line.{Line}
+use Rattle.text.specs.declared.read.Line.the-variants as L
+use Rattle.prediction.specs.declared.measure.OneMeasure.{OneMeasure}
+use Rattle.prediction.specs.declared.measure.OneMeasure.the-variants as M
+use Rattle.prediction.specs.Spectra.{scenarioOf}
+use Rattle.prediction.specs.Measures.{valueOf, measureOf}
+use Rattle.prediction.proofs.RowLaws.{by-completion}
+use Rattle.prediction.proofs.MeasureLaws.{measure-none, measure-fixed}
+use Rattle.prediction.proofs.MeasureLaws as P
+use Rattle.export.specs.Given.{measureAnswer, refusalIn, medianAfter, totalAfter, MeasureGiven}
+
+module _ (y s : Float) where
+  value-given : (m t : Float) → MeasureGiven (M.Value m t) 0 y m s t
+  unfolding refusalIn medianAfter totalAfter
+  value-given m t = record { refusal = refl; median = refl; total = refl }
+
+  refusal-given : (n : ℕ) → MeasureGiven (M.Refused n) n y y s s
+  unfolding refusalIn medianAfter totalAfter
+  refusal-given n = record { refusal = refl; median = refl; total = refl }
+
+  module _ (a : OneMeasure) where
+    pub measure-given : (m t : Float) → a ≡ M.Value m t → MeasureGiven a 0 y m s t
+    measure-given m t e = subst (λ (b : OneMeasure). MeasureGiven b 0 y m s t) (sym e) (value-given m t)
+
+    pub measure-refused : (n : ℕ) → a ≡ M.Refused n → MeasureGiven a n y y s s
+    measure-refused n e = subst (λ (b : OneMeasure). MeasureGiven b n y y s s) (sym e) (refusal-given n)
+
+-- ---- 0 stands for no refusal
+no-value : (w : Row) (n : ℕ) → valueOf w ≡ M.Refused n → ⊥
+unfolding valueOf
+no-value w n e = let z : _≡_ {A = ℕ} 0 1 = cc in omega arith
+
+same-number : (m n : ℕ) → M.Refused m ≡ M.Refused n → m ≡ n
+same-number m n e = cc
+
+-- no request is refused with 0
+never-0 : (r : Request) → completionOf r ≡ C.Refused 0 → ⊥
+unfolding numberOf
+never-0 r e =
+    let a = accepted-by r (sym (number-is r) ∙ ap numberOf e) in
+    let z : _≡_ {A = ℕ} 0 1 = cc in
+    omega arith
+
+request-not-0 : (r : Request) (k : ℕ) → measureOf r k ≡ M.Refused 0 → ⊥
+request-not-0 r k h = by-completion r done refused
+  where
+    by-number : (c : Completed) → completionOf r ≡ C.Done c → (t : Bool) → ltb 23 k ≡ t → ⊥
+    by-number c e true u = omega (arith, same-number 15 0 (sym (measure-none r c k e (ltb-true 23 k u)) ∙ h))
+    by-number c e false u = no-value (rowFixed k (scenarioOf c)) 0 (sym (measure-fixed r c k e (ltb-false 23 k u)) ∙ h)
+
+    done : (c : Completed) → completionOf r ≡ C.Done c → ⊥
+    done c e = by-number c e (ltb 23 k) refl
+
+    refused : (n : ℕ) → completionOf r ≡ C.Refused n → ⊥
+    refused n e = never-0 r (e ∙ ap C.Refused (same-number n 0 (sym (P.measure-refused r n k e) ∙ h)))
+
+pub not-0 : (l : Line) (k : ℕ) → measureAnswer l k ≡ M.Refused 0 → ⊥
+unfolding measureAnswer
+not-0 (L.Is r) k h = request-not-0 r k h
+not-0 L.Malformed k h = omega (arith, same-number 14 0 h)

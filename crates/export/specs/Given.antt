@@ -1,0 +1,106 @@
+-- What the exported functions give back, and what they leave in lent bytes and numbers. Definitions only.
+use Prim.Native.Nat.{ℕ, _+_}
+use mathlib.Core.Path.{_≡_}
+use mathlib.Core.Bool.{cond}
+use mathlib.Core.List.{List, [], _∷_, _++_}
+use lib.Dec.{ltb, eqb}
+use lib.ListN.{length, take, drop}
+use lib.Ieee.{Float}
+use Rattle.text.specs.declared.read.Line.{Line}
+use Rattle.text.specs.declared.read.Line.the-variants as L
+use Rattle.prediction.specs.declared.floats.FloatRow.{FloatRow}
+use Rattle.prediction.specs.declared.floats.FloatSpectrum.{FloatSpectrum}
+use Rattle.prediction.specs.declared.measure.OneMeasure.{OneMeasure}
+use Rattle.prediction.specs.declared.measure.OneMeasure.the-variants as M
+use Rattle.prediction.specs.Floats.{floatSpectrumOf}
+use Rattle.prediction.specs.Measures.{measureOf}
+use Rattle.answer.specs.declared.Wrote.{Wrote}
+use Rattle.answer.specs.declared.Wrote.the-variants as W
+use Rattle.answer.specs.Lines.{after}
+
+-- ---- a line
+-- the number that stands for a line writer's answer: no answer line is empty, so that 0 is free for its refusal
+unfoldable pub countOf : Wrote → ℕ
+countOf (W.To n) = n
+countOf (W.Refused n) = 0
+
+-- how many of n lent bytes the line s takes: none where it is longer
+unfoldable pub fitting : ℕ → List ℕ → ℕ
+fitting n s = cond (ltb n (length s)) 0 (length s)
+
+-- what is promised of the line s and the lent bytes b: their count n, and the bytes b₁ that b became
+pub record LineGiven (b s : List ℕ) (n : ℕ) (b₁ : List ℕ) : Type 0 where
+  pub count : n ≡ fitting (length b) s
+  pub bytes : b₁ ≡ after b s
+
+-- ---- one measure
+-- that of a line: refusal 14 for a malformed one
+unfoldable pub measureAnswer : Line → ℕ → OneMeasure
+unfolding measureOf
+measureAnswer (L.Is r) k = measureOf r k
+measureAnswer L.Malformed k = M.Refused 14
+
+-- the refusal's number, 0 for none
+unfoldable pub refusalIn : OneMeasure → ℕ
+refusalIn (M.Value y s) = 0
+refusalIn (M.Refused n) = n
+
+-- the number lent for the median, which was x, afterwards
+unfoldable pub medianAfter : OneMeasure → Float → Float
+medianAfter (M.Value y s) x = y
+medianAfter (M.Refused n) x = x
+
+-- the number lent for the total sigma, which was x, afterwards
+unfoldable pub totalAfter : OneMeasure → Float → Float
+totalAfter (M.Value y s) x = s
+totalAfter (M.Refused n) x = x
+
+-- what is promised of the answer a: the number n, and what the lent numbers y and s became
+pub record MeasureGiven (a : OneMeasure) (n : ℕ) (y y₁ s s₁ : Float) : Type 0 where
+  pub refusal : n ≡ refusalIn a
+  pub median : y₁ ≡ medianAfter a y
+  pub total : s₁ ≡ totalAfter a s
+
+-- ---- a spectrum
+-- that of a line: refusal 14 and no rows for a malformed one
+unfoldable pub spectrumAnswer : Line → FloatSpectrum
+unfolding floatSpectrumOf
+spectrumAnswer (L.Is r) = floatSpectrumOf r
+spectrumAnswer L.Malformed = record { refusal = 14; rows = [] }
+
+-- the six numbers of a row in document 01's order
+unfoldable pub rowNumbers : FloatRow → List Float
+rowNumbers r = r .ln ∷ r .median ∷ r .intra ∷ r .inter ∷ r .total ∷ r .arbitrary ∷ []
+
+-- row after row
+unfoldable pub numbersOf : List FloatRow → List Float
+unfolding rowNumbers
+numbersOf [] = []
+numbersOf (r ∷ rows) = rowNumbers r ++ numbersOf rows
+
+-- the numbers of a spectrum, measure 0 first
+unfoldable pub spectrumNumbers : FloatSpectrum → List Float
+unfolding numbersOf
+spectrumNumbers s = numbersOf (s .rows)
+
+-- b with s written over it from place p on
+unfoldable pub over : List Float → ℕ → List Float → List Float
+over b p s = take p b ++ s ++ drop (p + length s) b
+
+-- how many numbers a spectrum has
+abbrev pub numbers : ℕ
+numbers = 144
+
+-- the refusal's number where n numbers are lent: 16 for too few, tested after all else
+unfoldable pub spectrumRefusal : FloatSpectrum → ℕ → ℕ
+spectrumRefusal s n = cond (eqb (s .refusal) 0) (cond (ltb n numbers) 16 0) (s .refusal)
+
+-- the lent numbers b afterwards: as they were on a refusal
+unfoldable pub spectrumAfter : FloatSpectrum → List Float → List Float
+unfolding spectrumRefusal over spectrumNumbers
+spectrumAfter s b = cond (eqb (spectrumRefusal s (length b)) 0) (over b 0 (spectrumNumbers s)) b
+
+-- what is promised of the spectrum s and the lent numbers b: the number n, and the numbers b₁ that b became
+pub record SpectrumGiven (s : FloatSpectrum) (b : List Float) (n : ℕ) (b₁ : List Float) : Type 0 where
+  pub refusal : n ≡ spectrumRefusal s (length b)
+  pub rows : b₁ ≡ spectrumAfter s b

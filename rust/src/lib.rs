@@ -1,0 +1,75 @@
+//! A request line completed, or the shaking of its 24 measures predicted, by the Campbell-Bozorgnia 2008
+//! equations. A line is any bytes, without the LF; what is not a request is refused with number 14.
+//!
+//! Each function here calls one proved function of `libexport.a`; `c/xanhupive.h` says what is promised
+//! of each. The slices and references of Rust keep all that it asks of a caller.
+
+/// Bytes that are enough for any answer of [`complete_line`].
+pub const LONGEST_COMPLETION: usize = 38;
+
+/// Bytes that are enough for any answer of [`predict_line`].
+pub const LONGEST_ANSWER: usize = 912;
+
+/// How many measures a spectrum has.
+pub const MEASURES: usize = 24;
+
+/// How many numbers a row has: ln median, median, and the sigmas intra, inter, total, arbitrary.
+pub const COLUMNS: usize = 6;
+
+/// How many numbers a spectrum has.
+pub const NUMBERS: usize = MEASURES * COLUMNS;
+
+extern "C" {
+    fn xanhupive_complete_line(line: *const u8, line_length: usize, out: *mut u8, out_length: usize) -> usize;
+    fn xanhupive_predict_line(line: *const u8, line_length: usize, out: *mut u8, out_length: usize) -> usize;
+    fn xanhupive_measure(line: *const u8, line_length: usize, measure: u64, median: *mut f64, total: *mut f64) -> u32;
+    fn xanhupive_spectrum(line: *const u8, line_length: usize, rows: *mut f64, rows_length: usize) -> u32;
+}
+
+/// The completing program's answer, at the start of `out`; or `None` where it is longer than `out`, and
+/// then no byte of `out` has changed.
+pub fn complete_line<'a>(line: &[u8], out: &'a mut [u8]) -> Option<&'a [u8]> {
+    // SAFETY: the two slices are valid for their lengths and, one of them lent alone, apart.
+    let written = unsafe { xanhupive_complete_line(line.as_ptr(), line.len(), out.as_mut_ptr(), out.len()) };
+    (written != 0).then_some(&out[..written])
+}
+
+/// The predicting program's answer, at the start of `out`; or `None` where it is longer than `out`, and
+/// then no byte of `out` has changed.
+pub fn predict_line<'a>(line: &[u8], out: &'a mut [u8]) -> Option<&'a [u8]> {
+    // SAFETY: the two slices are valid for their lengths and, one of them lent alone, apart.
+    let written = unsafe { xanhupive_predict_line(line.as_ptr(), line.len(), out.as_mut_ptr(), out.len()) };
+    (written != 0).then_some(&out[..written])
+}
+
+/// One measure: the median in 10^-10 of g, cm/s or cm and the total sigma in millionths, both whole
+/// numbers; or the refusal's number.
+pub fn measure(line: &[u8], measure: u64) -> Result<(f64, f64), u32> {
+    let mut median = 0.0;
+    let mut total = 0.0;
+    // SAFETY: the slice is valid for its length, and the two numbers are locals of their own.
+    match unsafe { xanhupive_measure(line.as_ptr(), line.len(), measure, &mut median, &mut total) } {
+        0 => Ok((median, total)),
+        refusal => Err(refusal),
+    }
+}
+
+/// All 24 rows, or the refusal's number.
+pub fn spectrum(line: &[u8]) -> Result<[[f64; COLUMNS]; MEASURES], u32> {
+    let mut rows = [[0.0; COLUMNS]; MEASURES];
+    spectrum_into(line, rows.as_flattened_mut())?;
+    Ok(rows)
+}
+
+/// All 24 rows, one after the other at the start of `rows`; or the refusal's number, 16 where `rows` has
+/// fewer than [`NUMBERS`], and then no number has changed.
+pub fn spectrum_into(line: &[u8], rows: &mut [f64]) -> Result<(), u32> {
+    // SAFETY: the two slices are valid for their lengths and, one of them lent alone, apart.
+    match unsafe { xanhupive_spectrum(line.as_ptr(), line.len(), rows.as_mut_ptr(), rows.len()) } {
+        0 => Ok(()),
+        refusal => Err(refusal),
+    }
+}
+
+#[cfg(test)]
+mod tests;

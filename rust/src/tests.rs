@@ -1,0 +1,168 @@
+//! Each function called, refused and lent too little.
+
+use super::*;
+
+/// Document 01's listing: a request that is accepted, one with refusal 2, one with refusal 10.
+const GOOD: &[u8] = b"650 0 760 - 10000 - 3000 4000 30 - - - 2000";
+const TOO_LARGE: &[u8] = b"851 0 760 - 10000 - 3000 4000 30 - - - 2000";
+const ABOVE: &[u8] = b"650 90 300 40 10000 - 3000 0 90 - - - 2000";
+
+/// Lines that cannot be read.
+const MALFORMED: [&[u8]; 6] = [
+    b"",
+    b"\n",
+    b"650",
+    b"650 0 760 - 10000 - 3000 4000 30 - - - 2000\n",
+    b"650 0 760 - 10000 - 3000 4000 30 - - -  2000",
+    &[b'1'; 4096],
+];
+
+const PGA: u64 = 21;
+const MARK: u8 = 0xa5;
+
+type Answer = for<'a> fn(&[u8], &'a mut [u8]) -> Option<&'a [u8]>;
+
+fn answered(answer: Answer, line: &[u8]) -> Vec<u8> {
+    answer(line, &mut [MARK; LONGEST_ANSWER])
+        .expect("the longest answer fits")
+        .to_vec()
+}
+
+/// Every shorter buffer is refused as it was; in its own length and in more, what surrounds the answer is
+/// as it was.
+fn every_length(answer: Answer, line: &[u8]) {
+    let whole = answered(answer, line);
+    for lent in 0..whole.len() {
+        let mut bytes = vec![MARK; lent + 20];
+        assert_eq!(answer(line, &mut bytes[10..10 + lent]), None);
+        assert!(bytes.iter().all(|&byte| byte == MARK), "{lent} bytes lent");
+    }
+    for lent in [whole.len(), whole.len() + 5] {
+        let mut bytes = vec![MARK; lent + 20];
+        assert_eq!(answer(line, &mut bytes[10..10 + lent]), Some(&whole[..]));
+        assert_eq!(bytes[10..10 + whole.len()], whole);
+        assert!(bytes[..10].iter().chain(&bytes[10 + whole.len()..]).all(|&byte| byte == MARK));
+    }
+}
+
+#[test]
+fn completes_document_01s_listing() {
+    assert_eq!(answered(complete_line, GOOD), b"ok 90 10000 3000 5000 2000 eggeg\n");
+    assert_eq!(answered(complete_line, TOO_LARGE), b"no 2\n");
+    assert_eq!(answered(complete_line, ABOVE), b"no 10\n");
+}
+
+#[test]
+fn the_longest_completion() {
+    let line = b"650 0 760 - 100000 - 15000 199000 30 200000 - - 10000";
+    let answer = b"ok 90 100000 15000 200000 10000 egggg\n";
+    assert_eq!(answer.len(), LONGEST_COMPLETION);
+    assert_eq!(complete_line(line, &mut [MARK; LONGEST_COMPLETION]), Some(&answer[..]));
+    assert_eq!(complete_line(line, &mut [MARK; LONGEST_COMPLETION - 1]), None);
+}
+
+#[test]
+fn predicts_the_rows_of_the_spectrum() {
+    let text = String::from_utf8(answered(predict_line, GOOD)).expect("ASCII");
+    let rows = spectrum(GOOD).expect("accepted");
+    let lines: Vec<String> = rows
+        .iter()
+        .enumerate()
+        .map(|(k, row)| format!("{k} {} {} {}\n", row[0], row[1], row[4]))
+        .collect();
+    assert_eq!(text, lines.concat());
+    assert_eq!(answered(predict_line, TOO_LARGE), b"no 2\n");
+    assert_eq!(answered(predict_line, ABOVE), b"no 10\n");
+}
+
+#[test]
+fn a_measure_is_that_of_the_spectrum() {
+    let rows = spectrum(GOOD).expect("accepted");
+    for (k, row) in rows.iter().enumerate() {
+        assert_eq!(measure(GOOD, k as u64), Ok((row[1], row[4])));
+        assert!(row.iter().all(|number| number.fract() == 0.0));
+    }
+}
+
+/// What the published equations give for the peak acceleration of document 01's line.
+#[test]
+fn the_peak_acceleration() {
+    let (median, total) = measure(GOOD, PGA).expect("accepted");
+    let ln = spectrum(GOOD).expect("accepted")[PGA as usize][0];
+    assert!((ln - -1021505.0).abs() <= 5.0);
+    assert!((total - 519476.0).abs() <= 5.0);
+    assert!(((median / 1e10).ln() * 1e6 - ln).abs() <= 5.0);
+}
+
+#[test]
+fn refusals_in_their_order() {
+    for line in MALFORMED {
+        assert_eq!(answered(complete_line, line), b"no 14\n");
+        assert_eq!(answered(predict_line, line), b"no 14\n");
+        assert_eq!(measure(line, 24), Err(14));
+        assert_eq!(spectrum_into(line, &mut []), Err(14));
+    }
+    for (line, refusal) in [(TOO_LARGE, 2), (ABOVE, 10)] {
+        assert_eq!(measure(line, PGA), Err(refusal));
+        assert_eq!(measure(line, 24), Err(refusal));
+        assert_eq!(spectrum(line), Err(refusal));
+        assert_eq!(spectrum_into(line, &mut []), Err(refusal));
+    }
+    assert!(measure(GOOD, 23).is_ok());
+    assert_eq!(measure(GOOD, 24), Err(15));
+    assert_eq!(measure(GOOD, u64::MAX), Err(15));
+    assert_eq!(spectrum_into(GOOD, &mut []), Err(16));
+}
+
+#[test]
+fn lines_in_every_length() {
+    for answer in [complete_line as Answer, predict_line] {
+        for line in [GOOD, TOO_LARGE, ABOVE, b""] {
+            every_length(answer, line);
+        }
+    }
+}
+
+#[test]
+fn a_refused_measure_changes_nothing() {
+    for (line, number) in [(GOOD, 24), (ABOVE, PGA), (&b""[..], PGA)] {
+        let mut median = f64::from_bits(0x7ff8_0000_0000_abcd);
+        let mut total = -0.0;
+        // SAFETY: as in `measure`.
+        let refusal = unsafe { xanhupive_measure(line.as_ptr(), line.len(), number, &mut median, &mut total) };
+        assert_ne!(refusal, 0);
+        assert_eq!(median.to_bits(), 0x7ff8_0000_0000_abcd);
+        assert_eq!(total.to_bits(), (-0.0f64).to_bits());
+    }
+}
+
+#[test]
+fn spectra_in_every_length() {
+    let mark = f64::from_bits(0x7ff8_0000_0000_abcd);
+    let kept = |numbers: &[f64]| numbers.iter().all(|number| number.to_bits() == mark.to_bits());
+    let whole = spectrum(GOOD).expect("accepted");
+    for lent in 0..NUMBERS + 9 {
+        let mut numbers = vec![mark; lent + 20];
+        assert_eq!(spectrum_into(ABOVE, &mut numbers[10..10 + lent]), Err(10));
+        assert!(kept(&numbers));
+        let answer = spectrum_into(GOOD, &mut numbers[10..10 + lent]);
+        if lent < NUMBERS {
+            assert_eq!(answer, Err(16));
+            assert!(kept(&numbers), "{lent} numbers lent");
+        } else {
+            assert_eq!(answer, Ok(()));
+            assert_eq!(&numbers[10..10 + NUMBERS], whole.as_flattened());
+            assert!(kept(&numbers[..10]) && kept(&numbers[10 + NUMBERS..]));
+        }
+    }
+}
+
+#[test]
+fn many_threads_at_once() {
+    let alone = answered(predict_line, GOOD);
+    std::thread::scope(|scope| {
+        for _ in 0..8 {
+            scope.spawn(|| (0..200).for_each(|_| assert_eq!(answered(predict_line, GOOD), alone)));
+        }
+    });
+}
