@@ -1,40 +1,46 @@
 #!/usr/bin/env python3
-"""Times commands that read a list, each five times in turn, and tells each one's best time.
+"""Runs the proved programs and the C program on lists, both in turn, and prints the medians of their processor time and the median of the
+rounds' ratios.
 
-    bench/measure.py LIST COMMAND [-- COMMAND ...]
+    bench/measure.py SECOND FOLDER
+
+SECOND is the C program; FOLDER has the lists `mixed`, `soft` and `stiff`.
 """
 import os
+import statistics
 import subprocess
 import sys
-import time
 
-TURNS = 5
+ROUNDS = 5
+PAIRS = [
+    ("complete", "/dev/null", "mixed"),
+    ("complete", "a pipe", "mixed"),
+    ("predict", "/dev/null", "mixed"),
+    ("predict", "a pipe", "mixed"),
+    ("predict", "/dev/null", "soft"),
+    ("predict", "/dev/null", "stiff"),
+]
 
 
-def once(command, path):
-    """How many seconds a command takes over the list."""
+def once(command, path, out):
+    """How many seconds of processor time a command takes over a list."""
     with open(path, "rb") as given:
-        begun = time.perf_counter()
-        subprocess.run(command, stdin=given, stdout=subprocess.DEVNULL, check=True)
-        return time.perf_counter() - begun
+        reader = subprocess.Popen(["cat"], stdin=subprocess.PIPE, stdout=subprocess.DEVNULL) if out == "a pipe" else None
+        writer = subprocess.Popen(command, stdin=given, stdout=reader.stdin if reader else subprocess.DEVNULL)
+        _, status, used = os.wait4(writer.pid, 0)
+        writer.returncode = os.waitstatus_to_exitcode(status)
+    if reader:
+        reader.communicate()
+    if writer.returncode != 0:
+        raise SystemExit(f"{command} failed")
+    return used.ru_utime + used.ru_stime
 
 
-def commands(words):
-    """The commands, cut at `--`."""
-    found = [[]]
-    for word in words:
-        if word == "--":
-            found.append([])
-        else:
-            found[-1].append(word)
-    return found
-
-
-path, *rest = sys.argv[1:]
-tried = commands(rest)
-best = [min(times) for times in zip(*([once(c, path) for c in tried] for _ in range(TURNS)))]
-with open(path, "rb") as given:
-    lines = sum(1 for _ in given)
-for command, seconds in zip(tried, best):
-    name = os.path.basename(command[0])
-    print(f"{name}: {seconds:.3f} s, {lines / seconds / 1e6:.2f} million lines a second, {seconds / best[-1]:.2f} of the last one's time")
+second, folder = sys.argv[1:]
+for program, out, kind in PAIRS:
+    proved, c = [], []
+    for _ in range(ROUNDS):
+        proved.append(once([f"target/bin/{program}"], f"{folder}/{kind}", out))
+        c.append(once([second, program], f"{folder}/{kind}", out))
+    ratio = statistics.median(p / q for p, q in zip(proved, c))
+    print(f"{program + ' to ' + out:24}{kind:8}{statistics.median(proved):11.3f} s {statistics.median(c):11.3f} s {ratio:7.2f}", flush=True)

@@ -4,8 +4,9 @@ and 3 and each limit of the refusals, in the code, in the specs and in the secon
 
     python3 tamper/sweep.py [--sample N] [--seed S] [--jobs J] [--places code,specs,second]
 
-In the code and in the specs the step is the proof of the crate that the number stands in; in the second program it is the comparison with
-the proved programs and with the rows of the static library (target/bin and target/c/rows, which the gate builds). A number is altered by
+In the code and in the specs the step is the proof of the crate that the number stands in; in the second program it is the comparison of
+its tables with those of the specs, and of its answers with the proved programs and the rows of the static library (target/bin and
+target/c/rows, which the gate builds). A number is altered by
 one in its last digit. Exit 1 if one alteration passes. The work is done in copies; the repository is not touched.
 """
 import argparse
@@ -82,7 +83,9 @@ class Copy:
         if crate:
             words = ["rt", "check", crate]
         else:
-            words = ["python3", "second/compare.py", "1", "600", "--tight", "--rows", "target/c/rows"]
+            if subprocess.run(["python3", "second/tables.py"], cwd=self.root, capture_output=True).returncode:
+                return False
+            words = ["python3", "second/compare.py", "1", "6000", "--tight", "--rows", "target/c/rows"]
         return subprocess.run(words, cwd=self.root, capture_output=True).returncode == 0
 
     def try_one(self, change):

@@ -1,6 +1,6 @@
--- What the functions of the model hand from one to the other: a row of the tables, and what is worked out once for a request, for a c6
--- and for a k1. Definitions only.
-use Prim.Native.Nat.{ℕ, _+_, _<_}
+-- What the functions of the model hand from one to the other: a row of the tables, what is worked out once for a request, for a c6 and
+-- for a k1, and what Table 3 alone fixes. Definitions only.
+use Prim.Native.Nat.{ℕ, _+_, _*_, _<_}
 use mathlib.Core.Path.{_≡_}
 use mathlib.Core.Bool.{true, false}
 use lib.Dec.{ltb}
@@ -14,7 +14,7 @@ use Rattle.measures.specs.declared.shared.Shared.{Shared}
 use Rattle.measures.specs.declared.site.Soil.{Soil}
 use Rattle.measures.specs.declared.terms.Path.{Path}
 use Rattle.model.specs.Equations.{PGA, least}
-use Rattle.model.specs.Fixed.{lnDistance, wallFixed, deepFixed, rockPGAFixed, siteCFixed, shareFixed, curveFixed, atBaseFixed}
+use Rattle.model.specs.Fixed.{lnDistance, wallFixed, deepFixed, rockPGAFixed, siteCFixed, shareFixed, curveFixed, atBaseFixed, sigmaOf}
 
 -- a row of Table 2, a row of Table 3
 pub record OfTable2 (c : Coefficients) : Type 0 where
@@ -57,3 +57,12 @@ soilOf k1 x = elim (ltb (x .vs30) k1) [
   }
   | false ↦ record { k1 = k1; ratio = lnQuotient (least (x .vs30) 1100) k1; gain = pos 0; swing = pos 0 }
 ]
+
+-- the total and the arbitrary-component sigma of a linear site, where s² is the intra-event variance
+unfoldable pub linearTotal : Deviations → ℕ
+unfolding sigmaOf
+linearTotal d = sigmaOf (d .s * d .s * 1000 + d .t * d .t * 1000)
+
+unfoldable pub linearArbitrary : Deviations → ℕ
+unfolding sigmaOf
+linearArbitrary d = sigmaOf (d .s * d .s * 1000 + d .t * d .t * 1000 + d .sC * d .sC * 1000)

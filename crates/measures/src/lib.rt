@@ -15,9 +15,10 @@ use shared::PGA;
 use shared::Shared;
 use shared::shared_of;
 use sigma::cross_at;
-use sigma::intra_sigma;
 use sigma::intra_variance;
-use sigma::sigma_of;
+use sigma::linear_arbitrary_at;
+use sigma::linear_total_at;
+use sigma::sigma_or;
 use site::Soil;
 use site::alpha_of;
 use site::f_site;
@@ -75,10 +76,10 @@ fn row_from(
     Row {
         ln: round_div(l, 1_000),
         median: at_least_one(exp_fixed(l)),
-        intra: intra_sigma(d, alpha, intra),
+        intra: sigma_or(alpha, d.s * 1_000, intra),
         inter: inter,
-        total: sigma_of(total),
-        arbitrary: sigma_of(arbitrary),
+        total: sigma_or(alpha, linear_total_at(i), total),
+        arbitrary: sigma_or(alpha, linear_arbitrary_at(i), arbitrary),
     }
 }
 

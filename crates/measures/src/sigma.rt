@@ -4,12 +4,12 @@ use reckon::whole_root;
 use tables::Deviations;
 ghost use mathlib.Core.Path.{_≡_};
 ghost use Prim.Native.Nat.{_≤_, _<_};
-ghost use lib.IntN.{ℤ, natAbs};
+ghost use lib.IntN.{ℤ, pos, natAbs};
 ghost use Rattle.exact.specs.Near.{up};
 ghost use Rattle.tables.specs.Tables.{deviationsAt};
 ghost use Rattle.model.specs.Equations.{PGA};
 ghost use Rattle.model.specs.Fixed.{atBaseFixed, crossFixed, intraVarianceFixed, sigmaOf};
-ghost use Rattle.measures.specs.Sharing.{OfTable3};
+ghost use Rattle.measures.specs.Sharing.{OfTable3, linearTotal, linearArbitrary};
 
 // One, in units of 10^-9.
 const E9: i64 = 1_000_000_000;
@@ -82,13 +82,85 @@ pub fn sigma_of(v: u64) -> u64
     (whole_root(4_000 * v) + 1) / 2
 }
 
-// The intra-event sigma (15). On a linear site it is s, and no root is needed.
-pub fn intra_sigma(d: Deviations, alpha: i64, v: u64) -> u64
-    requires { ⌜ OfTable3 d × (v ≡ up (intraVarianceFixed d alpha)) × (v ≤ 2400000000) ⌝ }
+// The total sigma (16) on a linear site, which Table 3 alone fixes, as it does `CROSS`.
+const LINEAR_TOTAL: [u64; 24] = [
+    525_780, // 0.010 s
+    527_599, // 0.020 s
+    542_537, // 0.030 s
+    571_545, // 0.050 s
+    596_376, // 0.075 s
+    603_123, // 0.10 s
+    601_185, // 0.15 s
+    589_200, // 0.20 s
+    585_454, // 0.25 s
+    584_945, // 0.30 s
+    582_898, // 0.40 s
+    590_166, // 0.50 s
+    611_680, // 0.75 s
+    622_615, // 1.0 s
+    636_955, // 1.5 s
+    643_162, // 2.0 s
+    646_251, // 3.0 s
+    648_062, // 4.0 s
+    700_059, // 5.0 s
+    759_979, // 7.5 s
+    824_690, // 10.0 s
+    525_780, // PGA
+    524_848, // PGV
+    824_690, // PGD
+];
+
+// The total sigma of a measure on a linear site.
+pub fn linear_total_at(i: usize) -> u64
+    requires { ⌜ i < 24 ⌝ }
+    ensures { λ r. ⌜ r ≡ linearTotal (deviationsAt i) ⌝ }
+{
+    LINEAR_TOTAL[i]
+}
+
+// The sigma of an arbitrary component (18) on a linear site, which Table 3 alone fixes too.
+const LINEAR_ARBITRARY: [u64; 24] = [
+    551_363, // 0.010 s
+    553_098, // 0.020 s
+    567_072, // 0.030 s
+    594_061, // 0.050 s
+    616_951, // 0.075 s
+    626_623, // 0.10 s
+    627_554, // 0.15 s
+    617_862, // 0.20 s
+    615_822, // 0.25 s
+    617_548, // 0.30 s
+    618_228, // 0.40 s
+    625_748, // 0.50 s
+    650_380, // 0.75 s
+    662_023, // 1.0 s
+    674_534, // 1.5 s
+    681_713, // 2.0 s
+    685_625, // 3.0 s
+    690_039, // 4.0 s
+    739_088, // 5.0 s
+    806_851, // 7.5 s
+    874_193, // 10.0 s
+    551_363, // PGA
+    558_180, // PGV
+    874_193, // PGD
+];
+
+// The sigma of an arbitrary component of a measure on a linear site.
+pub fn linear_arbitrary_at(i: usize) -> u64
+    requires { ⌜ i < 24 ⌝ }
+    ensures { λ r. ⌜ r ≡ linearArbitrary (deviationsAt i) ⌝ }
+{
+    LINEAR_ARBITRARY[i]
+}
+
+// The root of a variance. On a linear site it is known, and none is taken.
+pub fn sigma_or(alpha: i64, linear: u64, v: u64) -> u64
+    requires { ⌜ (alpha ≡ pos 0 → linear ≡ sigmaOf v) × (v ≤ 2400000000) ⌝ }
     ensures { λ r. ⌜ r ≡ sigmaOf v ⌝ }
 {
-    if alpha == 0 {
-        return d.s * 1_000;
+    if alpha != 0 {
+        return sigma_of(v);
     }
-    sigma_of(v)
+    linear
 }

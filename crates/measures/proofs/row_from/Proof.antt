@@ -1,4 +1,4 @@
--- Each field by its own function, at figures that are small by the laws of `Sizes`. Assumes nothing.
+-- Each field by its own function, at figures that are small by the laws of `Sizes`; where alpha is 0 the variance is s². Assumes nothing.
 use borrow.Author.Needs.{needs}
 use Prim.Native.Nat.{ℕ, _+_, _*_, _^_, _≤_, _<_}
 use mathlib.Core.Path.{_≡_, sym, ap, subst, _∙_}
@@ -19,10 +19,11 @@ use Rattle.model.specs.declared.Scenario.{Scenario}
 use Rattle.measures.specs.declared.shared.Shared.{Shared}
 use Rattle.model.specs.Accuracy.{InRange}
 use Rattle.model.specs.Equations.{PGA}
-use Rattle.model.specs.Fixed.{alphaFixed, atBaseFixed, crossFixed, intraVarianceFixed, lnMedianFixed, rockPGAFixed, rowFixed, varianceFixed}
-use Rattle.measures.specs.Sharing.{OfTable3, sharedOf}
+use Rattle.model.specs.Fixed.{alphaFixed, atBaseFixed, crossFixed, intraVarianceFixed, lnMedianFixed, rockPGAFixed, rowFixed, sigmaOf, varianceFixed}
+use Rattle.measures.specs.Sharing.{OfTable3, linearArbitrary, linearTotal, sharedOf}
 use Rattle.model.proofs.Fair.{fair-at, spread-at}
 use Rattle.model.proofs.Median.{rock-is-near, lnMedian-size}
+use Rattle.measures.proofs.LinearSite.{flat, squareOf, whole-sigma}
 use Rattle.measures.proofs.OfTables.{of-row}
 use Rattle.model.proofs.Sizes.{alpha-size, by-parts, ln-size, variance-size}
 use Rattle.measures.proofs.row_from.Statement.{statement}
@@ -33,6 +34,7 @@ record Steps (i : ℕ) (x : Scenario) : Type 0 where
   alpha-fits : SFits w64 (alphaFixed (coefficientsAt i) (x .vs30) (rockPGAFixed x))
   t2 : deviationsAt i .t * deviationsAt i .t ≤ 250000
   sC2 : deviationsAt i .sC * deviationsAt i .sC ≤ 90000
+  s-high : deviationsAt i .s ≤ 700
   t-high : deviationsAt i .t ≤ 500
   variance-high : varianceFixed i x ≤ 2000000287
   ln-low : dn (lnMedianFixed i x) ≤ 15000000400
@@ -51,6 +53,7 @@ steps i x h r =
       alpha-fits = sfits-abs _ (omega (arith, a));
       t2 = mul-le-mul (d .t-high) (d .t-high);
       sC2 = mul-le-mul (d .sC-high) (d .sC-high);
+      s-high = d .s-high;
       t-high = d .t-high;
       variance-high = variance-size i x h r .1;
       ln-low = z .0;
@@ -182,38 +185,112 @@ exp-fixed-requires c κs =
 at-least-one-requires : tie.Need-at-least-one-requires
 at-least-one-requires c κs = search needs
 
-intra-sigma-requires : tie.Need-intra-sigma-requires
-intra-sigma-requires c κs =
-    let v = c .before .before .before .before .before .before in
+-- ---- the sigmas
+-- the place of the variance
+abbrev varianceAt : tie.After-struct-known4 → tie.After-intra-variance
+varianceAt c = c .before .before .before .before .before .before .before
+
+-- the total and the arbitrary-component variance
+abbrev totalAt : tie.After-intra-variance → ℕ
+totalAt c =
+    let d = c .before .before .before .before .args .d in
+    c .intra-variance .result + d .t * d .t * 1000
+
+abbrev arbitraryAt : tie.After-intra-variance → ℕ
+arbitraryAt c =
+    let d = c .before .before .before .before .args .d in
+    totalAt c + d .sC * d .sC * 1000
+
+-- and their sizes
+total-high : (c : tie.After-intra-variance) → totalAt c ≤ 2400000000
+total-high c =
+    let s = c .before .before .before .before in
+    let f = at s in
+    rw (intra-is c, s .pre .2) (omega (arith, f .variance-high, f .t2))
+
+arbitrary-high : (c : tie.After-intra-variance) → arbitraryAt c ≤ 2400000000
+arbitrary-high c =
+    let s = c .before .before .before .before in
+    let f = at s in
+    rw (intra-is c, s .pre .2) (omega (arith, f .variance-high, f .t2, f .sC2))
+
+-- s², where alpha is 0
+linear-here :
+    (c : tie.After-intra-variance)
+    → alphaAt c ≡ pos 0
+    → squareOf (c .before .before .before .before .args .d) ≡ c .intra-variance .result
+linear-here c h =
+    let d = c .before .before .before .before .args .d in
+    flat d ∙ ap (λ (z : ℤ). up (intraVarianceFixed d z)) (sym h) ∙ sym (variance-here c)
+
+mul-sigma-or : tie.Need-mul-sigma-or
+mul-sigma-or c =
+    let s = varianceAt c .before .before .before .before in
+    rw (s .pre .2) (record { fits = omega (arith, at s .s-high) })
+
+sigma-or-requires : tie.Need-sigma-or-requires
+sigma-or-requires c κs =
+    let v = varianceAt c in
     let a = v .before .before in
     let s = a .before .before in
     let f = at s in
     simp (alpha-is a, toZ-ofZ (f .alpha-fits)) (
-      record { i = s .args .i; below = s .pre .0; is = s .pre .2 },
-      variance-here v,
+      (λ h. sym (whole-sigma (s .args .d .s)) ∙ ap sigmaOf (linear-here v h)),
       subst (λ (n : ℕ). n ≤ 2400000000) (sym (intra-is v)) (le-trans (f .variance-high) (lit≤ tt)),
     )
 
-sigma-of-requires : tie.Need-sigma-of-requires
-sigma-of-requires c κs =
-    let v = c .before .before .before .before .before .before .before in
-    let s = v .before .before .before .before in
-    let f = at s in
-    rw (intra-is v, s .pre .2) (omega (arith, f .variance-high, f .t2))
+linear-total-at-requires : tie.Need-linear-total-at-requires
+linear-total-at-requires c κs = varianceAt (c .before) .before .before .before .before .pre .0
 
-sigma-of-requires-2 : tie.Need-sigma-of-requires-2
-sigma-of-requires-2 c κs =
-    let v = c .before .before .before .before .before .before .before .before in
+-- the total sigma, where alpha is 0
+total-here :
+    (c : tie.After-linear-total-at)
+    → alphaAt (varianceAt (c .before .before)) ≡ pos 0
+    → c .linear-total-at .result ≡ sigmaOf (totalAt (varianceAt (c .before .before)))
+unfolding linearTotal
+total-here c h =
+    let v = varianceAt (c .before .before) in
     let s = v .before .before .before .before in
-    let f = at s in
-    rw (intra-is v, s .pre .2) (omega (arith, f .variance-high, f .t2, f .sC2))
+    let d = s .args .d in
+    c .linear-total-at .ensures
+    ∙ ap linearTotal (sym (s .pre .2))
+    ∙ ap (λ (n : ℕ). sigmaOf (n + d .t * d .t * 1000)) (linear-here v h)
+
+sigma-or-requires-2 : tie.Need-sigma-or-requires-2
+sigma-or-requires-2 c κs =
+    let v = varianceAt (c .before .before) in
+    let a = v .before .before in
+    simp (alpha-is a, toZ-ofZ (at (a .before .before) .alpha-fits)) (total-here c, total-high v)
+
+linear-arbitrary-at-requires : tie.Need-linear-arbitrary-at-requires
+linear-arbitrary-at-requires c κs = varianceAt (c .before .before .before) .before .before .before .before .pre .0
+
+-- the sigma of an arbitrary component, where alpha is 0
+arbitrary-here :
+    (c : tie.After-linear-arbitrary-at)
+    → alphaAt (varianceAt (c .before .before .before .before)) ≡ pos 0
+    → c .linear-arbitrary-at .result ≡ sigmaOf (arbitraryAt (varianceAt (c .before .before .before .before)))
+unfolding linearArbitrary
+arbitrary-here c h =
+    let v = varianceAt (c .before .before .before .before) in
+    let s = v .before .before .before .before in
+    let d = s .args .d in
+    c .linear-arbitrary-at .ensures
+    ∙ ap linearArbitrary (sym (s .pre .2))
+    ∙ ap (λ (n : ℕ). sigmaOf (n + d .t * d .t * 1000 + d .sC * d .sC * 1000)) (linear-here v h)
+
+sigma-or-requires-3 : tie.Need-sigma-or-requires-3
+sigma-or-requires-3 c κs =
+    let v = varianceAt (c .before .before .before .before) in
+    let a = v .before .before in
+    simp (alpha-is a, toZ-ofZ (at (a .before .before) .alpha-fits)) (arbitrary-here c, arbitrary-high v)
 
 returns : tie.Need-returns
 unfolding rowFixed
 returns c =
-    let t = c .before in
-    let n = t .before in
-    let o = n .before in
+    let t = c .before .before in
+    let n = t .before .before in
+    let o = n .before .before in
     let e = o .before in
     let r = e .before in
     let v = r .before .before .before .before in
@@ -224,9 +301,9 @@ returns c =
       r .round-div .ensures,
       o .at-least-one .ensures,
       e .exp-fixed .ensures,
-      n .intra-sigma .ensures,
-      t .sigma-of .ensures,
-      c .sigma-of2 .ensures,
+      n .sigma-or .ensures,
+      t .sigma-or2 .ensures,
+      c .sigma-or3 .ensures,
       intra-is v,
       s .pre .2,
       l .ln-median .ensures,
@@ -252,7 +329,10 @@ row-from-spec =
     round-div-requires
     exp-fixed-requires
     at-least-one-requires
-    intra-sigma-requires
-    sigma-of-requires
-    sigma-of-requires-2
+    mul-sigma-or
+    sigma-or-requires
+    linear-total-at-requires
+    sigma-or-requires-2
+    linear-arbitrary-at-requires
+    sigma-or-requires-3
     returns)
