@@ -92,9 +92,9 @@ pub fn row_at(i: usize, x: Scenario) -> Row
     let table3 = all_deviations();
     let rock = table2[PGA];
     let base = table3[PGA];
-    let s = shared_of(rock, base, x, path_of(rock, x));
     let c = table2[i];
     let d = table3[i];
+    let s = shared_of(rock, base, x, path_of(rock, x));
     row_from(i, c, d, x, s, path_of(c, x), soil_of(c, x, s))
 }
 
