@@ -1,9 +1,18 @@
--- Equation 23 joins at Vs30 180 and jumps at 500. Assumes nothing.
+-- Values of the rules, by which a number wrong in code and specs alike is refused, and the jump of equation 23 at Vs30 500. Assumes nothing.
 use Prim.Native.Nat.{_/_, _<_}
 use mathlib.Core.Path.{_≡_, refl}
 use lib.Dec.{lit<}
 use Rattle.exact.specs.Exact.{E30}
-use Rattle.estimate.specs.Rules.{basinE}
+use Rattle.estimate.specs.Rules.{basinFromZ15, basinFromZ10, basinE}
+
+z15-known : basinFromZ15 6045 ≡ 9999
+z15-known = refl
+
+z15-more : basinFromZ15 6046 ≡ 10001
+z15-more = refl
+
+z10-known : basinFromZ10 1000 ≡ 4114
+z10-known = refl
 
 -- the first two rules of equation 23 join at 180
 joined : basinE 179 ≡ basinE 180
