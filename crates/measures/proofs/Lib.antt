@@ -1,4 +1,2 @@
-pub mod OfTables
 pub mod SoilLaws
 pub mod FilledRows
-pub mod LinearSite

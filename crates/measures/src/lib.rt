@@ -2,10 +2,7 @@
 // and sigmas. Each function equals a definition of model's specs/Fixed, of which model's proofs/ say
 // how near it lies to the exact value.
 mod shared;
-mod sigma;
 mod site;
-mod terms;
-mod wall;
 
 use model::Row;
 use model::Scenario;
@@ -14,11 +11,11 @@ use reckon::round_div;
 use shared::PGA;
 use shared::Shared;
 use shared::shared_of;
-use sigma::cross_at;
-use sigma::intra_variance;
-use sigma::linear_arbitrary_at;
-use sigma::linear_total_at;
-use sigma::sigma_or;
+use sigmas::cross_at;
+use sigmas::intra_variance;
+use sigmas::linear_arbitrary_at;
+use sigmas::linear_total_at;
+use sigmas::sigma_or;
 use site::Soil;
 use site::alpha_of;
 use site::f_site;
@@ -37,7 +34,9 @@ ghost use Rattle.tables.specs.Tables.{coefficientsAt, deviationsAt};
 ghost use Rattle.model.specs.Accuracy.{InRange};
 ghost use Rattle.model.specs.Equations.{most};
 ghost use Rattle.model.specs.Fixed.{rowFixed, lnMedianFixed, noRow};
-ghost use Rattle.measures.specs.Sharing.{OfTable2, pathOf, soilOf, sharedOf};
+ghost use Rattle.model.specs.OfTables.{OfTable2};
+ghost use Rattle.terms.specs.Paths.{pathOf};
+ghost use Rattle.measures.specs.Sharing.{soilOf, sharedOf};
 
 // The ln median of a measure, in units of 10^-9.
 fn ln_median(i: usize, c: Coefficients, x: Scenario, s: Shared, path: Path, soil: Soil) -> i64

@@ -17,3 +17,4 @@ pub mod Variance
 pub mod SigmaNear
 pub mod Demand
 pub mod Sizes
+pub mod OfTables

@@ -1,3 +1,4 @@
 pub mod Equations
 pub mod Fixed
 pub mod Accuracy
+pub mod OfTables

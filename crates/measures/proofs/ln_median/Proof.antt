@@ -12,9 +12,10 @@ use Rattle.tables.specs.declared.Coefficients.{Coefficients}
 use Rattle.tables.specs.Tables.{coefficientsAt}
 use Rattle.measures.specs.declared.shared.Shared.{Shared}
 use Rattle.model.specs.Fixed.{wallFixed, deepFixed, fSiteFixed, rockPGAFixed, lnSum, lnMedianAtFixed, lnMedianFixed}
-use Rattle.measures.specs.Sharing.{OfTable2, sharedOf}
+use Rattle.model.specs.OfTables.{OfTable2}
+use Rattle.measures.specs.Sharing.{sharedOf}
 use Rattle.model.proofs.Median.{rock-is-near, lnMedian-size}
-use Rattle.measures.proofs.OfTables.{fair-of, of-row}
+use Rattle.model.proofs.OfTables.{fair-of, of-row}
 use Rattle.model.proofs.Sizes.{fSite-size}
 use Rattle.measures.proofs.ln_median.Statement.{statement}
 use Rattle.measures.proofs.ln_median.Tie as tie

@@ -20,11 +20,13 @@ use Rattle.measures.specs.declared.shared.Shared.{Shared}
 use Rattle.model.specs.Accuracy.{InRange}
 use Rattle.model.specs.Equations.{PGA}
 use Rattle.model.specs.Fixed.{alphaFixed, atBaseFixed, crossFixed, intraVarianceFixed, lnMedianFixed, rockPGAFixed, rowFixed, sigmaOf, varianceFixed}
-use Rattle.measures.specs.Sharing.{OfTable3, linearArbitrary, linearTotal, sharedOf}
+use Rattle.model.specs.OfTables.{OfTable3}
+use Rattle.sigmas.specs.LinearSites.{linearArbitrary, linearTotal}
+use Rattle.measures.specs.Sharing.{sharedOf}
 use Rattle.model.proofs.Fair.{fair-at, spread-at}
 use Rattle.model.proofs.Median.{rock-is-near, lnMedian-size}
-use Rattle.measures.proofs.LinearSite.{flat, squareOf, whole-sigma}
-use Rattle.measures.proofs.OfTables.{of-row}
+use Rattle.sigmas.proofs.LinearSite.{flat, squareOf, whole-sigma}
+use Rattle.model.proofs.OfTables.{of-row}
 use Rattle.model.proofs.Sizes.{alpha-size, by-parts, ln-size, variance-size}
 use Rattle.measures.proofs.row_from.Statement.{statement}
 use Rattle.measures.proofs.row_from.Tie as tie

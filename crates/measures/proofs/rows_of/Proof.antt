@@ -11,12 +11,13 @@ use lib.ListN.{length, getD}
 use Rattle.model.specs.declared.Scenario.{Scenario}
 use Rattle.model.specs.declared.Row.{Row}
 use Rattle.measures.specs.declared.site.Soil.{Soil}
-use Rattle.measures.specs.declared.terms.Path.{Path}
+use Rattle.terms.specs.declared.Path.{Path}
 use Rattle.model.specs.Equations.{PGA}
 use Rattle.model.specs.Fixed.{rowFixed}
-use Rattle.measures.specs.Sharing.{pathOf, soilOf, sharedOf}
+use Rattle.terms.specs.Paths.{pathOf}
+use Rattle.measures.specs.Sharing.{soilOf, sharedOf}
 use Rattle.measures.proofs.FilledRows.{Filled, set-filled, pass-filled, path-again, soil-again}
-use Rattle.measures.proofs.OfTables.{of-row, read-2, read-3}
+use Rattle.model.proofs.OfTables.{of-row, read-2, read-3}
 use Rattle.measures.proofs.rows_of.Statement.{statement}
 use Rattle.measures.proofs.rows_of.Tie as tie
 

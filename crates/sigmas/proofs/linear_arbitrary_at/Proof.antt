@@ -1,0 +1,27 @@
+-- The constant of the code is what Table 3 gives: one list, worked out row by row. Assumes nothing.
+use borrow.Author.Needs.{needs}
+use Prim.Native.Nat.{ℕ}
+use mathlib.Core.Path.{_≡_, refl, ap, _∙_}
+use mathlib.Core.List.{List, map}
+use lib.ListN.{getD, List·getD-map}
+use Rattle.tables.specs.Tables.{table3, noDeviations, deviationsAt}
+use Rattle.sigmas.specs.LinearSites.{linearArbitrary}
+use Rattle.sigmas.proofs.linear_arbitrary_at.Statement.{statement}
+use Rattle.sigmas.proofs.linear_arbitrary_at.Tie as tie
+
+listed : (l : List ℕ) (i : ℕ) → l ≡ map linearArbitrary table3 → getD l i 0 ≡ linearArbitrary (deviationsAt i)
+unfolding linearArbitrary deviationsAt
+listed l i e = ap (λ (t : List ℕ). getD t i 0) e ∙ List·getD-map linearArbitrary table3 i noDeviations
+
+mul-result : tie.Need-mul-result
+mul-result c = search needs
+
+array-read-result : tie.Need-array-read-result
+array-read-result c = search needs
+
+returns : tie.Need-returns
+unfolding linearArbitrary table3
+returns c = listed _ (c .args .i) refl
+
+pub linear-arbitrary-at-spec : {M : Type 1} → statement M
+linear-arbitrary-at-spec = tie.close (tie.spec mul-result array-read-result returns)

@@ -1,0 +1,55 @@
+-- Two products and their sum, small by the row's sizes. Assumes nothing.
+use Prim.Native.Nat.{ℕ, _≤_}
+use native.Mathlib.Omega.{arith}
+use lib.IntN.{ℤ, pos, natAbs, _+ℤ_, _*ℤ_}
+use mir.Syntax.{w64}
+use mir.Val.{SFits}
+use mir.Facts.{toZ-ofZ}
+use Rattle.exact.proofs.Signed.{sfits-abs, abs-parts, mul-abs}
+use Rattle.tables.specs.declared.Coefficients.{Coefficients}
+use Rattle.model.specs.Equations.{linear}
+use Rattle.model.specs.OfTables.{OfTable2}
+use Rattle.model.proofs.OfTables.{fair-of}
+use Rattle.measures.proofs.site.linear_of.Statement.{statement}
+use Rattle.measures.proofs.site.linear_of.Tie as tie
+
+record Steps (c : Coefficients) : Type 0 where
+  c10-fits : SFits w64 (c .c10)
+  k2-fits : SFits w64 (c .k2)
+  p : SFits w64 (pos 100 *ℤ c .c10)
+  q : SFits w64 (pos 118 *ℤ c .k2)
+  sum : SFits w64 (linear c)
+
+steps : (c : Coefficients) → OfTable2 c → Steps c
+steps c o =
+    let f = fair-of c o in
+    let k : natAbs (c .k2) ≤ 2670 = omega (arith, abs-parts (c .k2), f .k2-sign, f .k2-small) in
+    record {
+      c10-fits = sfits-abs (c .c10) (omega (arith, f .c10-small));
+      k2-fits = sfits-abs (c .k2) (omega (arith, k));
+      p = sfits-abs (pos 100 *ℤ c .c10) (omega (arith, f .c10-small, mul-abs (pos 100) (c .c10)));
+      q = sfits-abs (pos 118 *ℤ c .k2) (omega (arith, k, mul-abs (pos 118) (c .k2)));
+      sum = sfits-abs (linear c) (omega (arith, f .linear-small));
+    }
+
+at : (c : tie.Start) → Steps (c .args .c)
+at c = steps (c .args .c) (c .pre)
+
+mul-result : tie.Need-mul-result
+mul-result c = let f = at (c .before .before) in simp (toZ-ofZ (f .c10-fits)) (f .p)
+
+mul-result-2 : tie.Need-mul-result-2
+mul-result-2 c = let f = at (c .before .before .before .before) in simp (toZ-ofZ (f .k2-fits)) (f .q)
+
+add-result : tie.Need-add-result
+add-result c =
+    let f = at (c .before .before .before .before) in
+    simp (toZ-ofZ (f .c10-fits), toZ-ofZ (f .k2-fits), toZ-ofZ (f .p), toZ-ofZ (f .q)) (f .sum)
+
+returns : tie.Need-returns
+returns c =
+    let f = at (c .before .before .before .before) in
+    simp (toZ-ofZ (f .c10-fits), toZ-ofZ (f .k2-fits), toZ-ofZ (f .p), toZ-ofZ (f .q), toZ-ofZ (f .sum))
+
+pub linear-of-spec : {M : Type 1} → statement M
+linear-of-spec = tie.close (tie.spec mul-result mul-result-2 add-result returns)

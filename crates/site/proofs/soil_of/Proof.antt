@@ -1,0 +1,250 @@
+-- Below k1 and from k1 up the soil is that of `SoilLaws`, each number of it small. Assumes nothing.
+use borrow.Author.Needs.{needs}
+use Prim.Native.Nat.{ℕ, _+_, _*_, _≤_, _<_}
+use mathlib.Core.Path.{_≡_, sym, ap, _∙_}
+use native.Mathlib.Omega.{arith}
+use native.Mathlib.Nat.{le-trans}
+use lib.Dec.{lit≤}
+use lib.IntN.{ℤ, pos, natAbs, _-ℤ_}
+use mir.Syntax.{w64}
+use mir.Val.{Fits, SFits, toZ}
+use mir.Facts.{toZ-ofZ, toZ-pos}
+use Rattle.exact.proofs.Signed.{sfits-abs}
+use Rattle.reckon.specs.Fixed.{E9, lnFixed, lnQuotient}
+use Rattle.tables.specs.declared.Coefficients.{Coefficients}
+use Rattle.model.specs.declared.Scenario.{Scenario}
+use Rattle.measures.specs.declared.shared.Shared.{Shared}
+use Rattle.model.specs.Accuracy.{InRange}
+use Rattle.model.specs.Equations.{least}
+use Rattle.model.specs.Fixed.{curveOf, curveFixed, rockPGAFixed, shareFixed, siteCFixed}
+use Rattle.model.specs.OfTables.{OfTable2}
+use Rattle.measures.specs.Sharing.{sharedOf, soilOf}
+use Rattle.model.proofs.Curve.{Paired, quotient-size, curve-low-fixed, curve-high-fixed}
+use Rattle.model.proofs.Median.{rock-is-near}
+use Rattle.model.proofs.OfTables.{fair-of}
+use Rattle.model.proofs.SiteNear.{paired, capped}
+use Rattle.model.proofs.Sizes.{log-size, logarithms-size}
+use Rattle.measures.proofs.SoilLaws.{soft-soil, hard-soil, share-le, swing-le}
+use Rattle.measures.proofs.site.soil_of.Statement.{statement}
+use Rattle.measures.proofs.site.soil_of.Tie as tie
+
+-- ---- below k1
+record Soft (v k1 a : ℕ) : Type 0 where
+  k1-low : 400 ≤ k1
+  k1-high : k1 ≤ 1086
+  v-low : 150 ≤ v
+  a-high : a ≤ 1490000000
+  curve-low : 179999900 ≤ curveFixed v k1
+  curve-high : curveFixed v k1 ≤ 1900000000
+  ratio-small : natAbs (lnQuotient v k1) ≤ 2000000005
+  ratio-fits : SFits w64 (lnQuotient v k1)
+  curve-log : SFits w64 (lnFixed (a + curveFixed v k1))
+  rock-log : SFits w64 (lnFixed (a + siteCFixed))
+  gain-fits : SFits w64 (lnFixed (a + curveFixed v k1) -ℤ lnFixed (a + siteCFixed))
+  curve-share : SFits w64 (pos (shareFixed a (curveFixed v k1)))
+  curve-bits : toZ w64 (shareFixed a (curveFixed v k1)) ≡ pos (shareFixed a (curveFixed v k1))
+  rock-share : SFits w64 (pos (shareFixed a siteCFixed))
+  rock-bits : toZ w64 (shareFixed a siteCFixed) ≡ pos (shareFixed a siteCFixed)
+  swing-fits : SFits w64 (pos (shareFixed a (curveFixed v k1)) -ℤ pos (shareFixed a siteCFixed))
+
+soft : (c : Coefficients) (x : Scenario) → OfTable2 c → InRange x → x .vs30 < c .k1 → Soft (x .vs30) (c .k1) (rockPGAFixed x)
+soft c x o r h =
+    let f = fair-of c o in
+    let p = paired c (x .vs30) f (r .vs30-low) (r .vs30-high) in
+    let a : ℕ = rockPGAFixed x in
+    let b : ℕ = curveFixed (x .vs30) (c .k1) in
+    let n = rock-is-near x r in
+    let low = curve-low-fixed (x .vs30) (c .k1) p in
+    let high = curve-high-fixed (x .vs30) (c .k1) p h in
+    let q = quotient-size (x .vs30) (c .k1) p in
+    let share-b = share-le a b in
+    let share-c = share-le a siteCFixed in
+    record {
+      k1-low = f .k1-low;
+      k1-high = f .k1-high;
+      v-low = r .vs30-low;
+      a-high = n .fixed-top;
+      curve-low = low;
+      curve-high = high;
+      ratio-small = q;
+      ratio-fits = sfits-abs (lnQuotient (x .vs30) (c .k1)) (omega (arith, q));
+      curve-log = sfits-abs (lnFixed (a + b)) (omega (arith, log-size (a + b) (omega (arith, low)) (omega (arith, high, n .fixed-top))));
+      rock-log = sfits-abs (lnFixed (a + siteCFixed)) (omega (arith, log-size (a + siteCFixed) (omega arith) (omega (arith, n .fixed-top))));
+      gain-fits =
+          sfits-abs (lnFixed (a + b) -ℤ lnFixed (a + siteCFixed)) (omega (arith, logarithms-size (x .vs30) (c .k1) _ _ p h n));
+      curve-share = sfits-abs (pos (shareFixed a b)) (omega (arith, share-b));
+      curve-bits = toZ-pos w64 (omega (arith, share-b));
+      rock-share = sfits-abs (pos (shareFixed a siteCFixed)) (omega (arith, share-c));
+      rock-bits = toZ-pos w64 (omega (arith, share-c));
+      swing-fits = sfits-abs (pos (shareFixed a b) -ℤ pos (shareFixed a siteCFixed)) (omega (arith, swing-le _ _ share-b share-c));
+    }
+
+soft-at : (c : tie.Then1) → Soft (c .before .before .before .args .x .vs30) (c .before .before .before .args .c .k1) (rockPGAFixed (c .before .before .before .args .x))
+soft-at c = let s = c .before .before .before in soft (s .args .c) (s .args .x) (s .pre .0) (s .pre .1) (c .if1 .taken)
+
+-- what is shared, field by field
+rock-is : (c : tie.Start) → c .args .s .rock ≡ rockPGAFixed (c .args .x)
+unfolding sharedOf
+rock-is c = ap (λ (s : Shared). s .rock) (c .pre .2)
+
+log-is : (c : tie.Start) → c .args .s .log ≡ lnFixed (rockPGAFixed (c .args .x) + siteCFixed)
+unfolding sharedOf
+log-is c = ap (λ (s : Shared). s .log) (c .pre .2)
+
+share-is : (c : tie.Start) → c .args .s .share ≡ shareFixed (rockPGAFixed (c .args .x)) siteCFixed
+unfolding sharedOf
+share-is c = ap (λ (s : Shared). s .share) (c .pre .2)
+
+ln-quotient-requires : tie.Need-ln-quotient-requires
+ln-quotient-requires c κs =
+    let f = soft-at c in
+    (omega (arith, f .k1-low), omega (arith, f .k1-high), omega (arith, f .k1-high, f .v-low), omega (arith, c .if1 .taken))
+
+curve-of-requires : tie.Need-curve-of-requires
+unfolding curveFixed
+curve-of-requires c κs =
+    let f = soft-at (c .before) in
+    simp (c .ln-quotient .ensures, toZ-ofZ (f .ratio-fits)) (f .ratio-small, f .curve-high)
+
+-- the curve's contract, in the definition's words
+curve-is :
+    (c : tie.After-curve-of)
+    → c .curve-of .result ≡ curveFixed (c .before .before .before .before .before .args .x .vs30) (c .before .before .before .before .before .args .c .k1)
+unfolding curveFixed
+curve-is c =
+    let f = soft-at (c .before .before) in
+    simp (c .before .ln-quotient .ensures, toZ-ofZ (f .ratio-fits)) at (c .curve-of .ensures)
+
+add-ln-fixed : tie.Need-add-ln-fixed
+add-ln-fixed c =
+    let e = c .before in
+    let f = soft-at (e .before .before) in
+    let s = e .before .before .before .before .before in
+    rw (rock-is s, curve-is e) (record { fits = omega (arith, f .a-high, f .curve-high) })
+
+ln-fixed-requires : tie.Need-ln-fixed-requires
+ln-fixed-requires c κs =
+    let e = c .before in
+    let f = soft-at (e .before .before) in
+    let s = e .before .before .before .before .before in
+    rw (rock-is s, curve-is e) (omega (arith, f .curve-low), omega (arith, f .a-high, f .curve-high))
+
+-- the logarithm's contract, likewise
+ln-is :
+    (c : tie.After-ln-fixed)
+    → c .ln-fixed .result
+    ≡ lnFixed (rockPGAFixed (c .before .before .before .before .before .before .before .args .x)
+    + curveFixed (c .before .before .before .before .before .before .before .args .x .vs30) (c .before .before .before .before .before .before .before .args .c .k1))
+ln-is c =
+    let e = c .before .before in
+    let s = e .before .before .before .before .before in
+    c .ln-fixed .ensures ∙ rw (rock-is s, curve-is e)
+
+sub-gain : tie.Need-sub-gain
+sub-gain c =
+    let l = c .before .before in
+    let e = l .before .before in
+    let f = soft-at (e .before .before) in
+    let s = e .before .before .before .before .before in
+    simp (ln-is l, log-is s, toZ-ofZ (f .curve-log), toZ-ofZ (f .rock-log)) (f .gain-fits)
+
+share-of-requires : tie.Need-share-of-requires
+share-of-requires c κs =
+    let e = c .before .before .before .before in
+    let f = soft-at (e .before .before) in
+    let s = e .before .before .before .before .before in
+    rw (rock-is s, curve-is e) (f .a-high, omega (arith, f .curve-low), f .curve-high)
+
+share-value :
+    (c : tie.After-share-of)
+    → c .share-of .result
+    ≡ shareFixed (rockPGAFixed (c .before .before .before .before .before .before .before .before .before .before .args .x))
+    (curveFixed (c .before .before .before .before .before .before .before .before .before .before .args .x .vs30)
+    (c .before .before .before .before .before .before .before .before .before .before .args .c .k1))
+share-value c =
+    let e = c .before .before .before .before .before in
+    let s = e .before .before .before .before .before in
+    c .share-of .ensures ∙ rw (rock-is s, curve-is e)
+
+cast-swing : tie.Need-cast-swing
+cast-swing c =
+    let e = c .before .before .before .before .before in
+    let f = soft-at (e .before .before) in
+    rw (share-value c) (f .curve-share)
+
+cast-swing-2 : tie.Need-cast-swing-2
+cast-swing-2 c =
+    let e = c .before .before .before .before .before .before in
+    let f = soft-at (e .before .before) in
+    let s = e .before .before .before .before .before in
+    rw (share-is s) (f .rock-share)
+
+sub-swing : tie.Need-sub-swing
+sub-swing c =
+    let e = c .before .before .before .before .before .before in
+    let f = soft-at (e .before .before) in
+    let s = e .before .before .before .before .before in
+    simp (share-value (c .before), share-is s, f .curve-bits, f .rock-bits) (f .swing-fits)
+
+returns : tie.Need-returns
+returns c =
+    let l = c .before .before .before .before in
+    let e = l .before .before in
+    let t = e .before .before in
+    let f = soft-at t in
+    let s = t .before .before .before in
+    rw (soft-soil (s .args .c .k1) (s .args .x) (t .if1 .taken))
+    (simp (
+      e .before .ln-quotient .ensures,
+      ln-is l,
+      log-is s,
+      share-value (c .before),
+      share-is s,
+      toZ-ofZ (f .ratio-fits),
+      toZ-ofZ (f .curve-log),
+      toZ-ofZ (f .rock-log),
+      toZ-ofZ (f .gain-fits),
+      f .curve-bits,
+      f .rock-bits,
+      toZ-ofZ (f .swing-fits),
+    ))
+
+-- ---- from k1 up
+at-most-1100-requires : tie.Need-at-most-1100-requires
+at-most-1100-requires c κs = search needs
+
+hard : (c : tie.Start) → Paired (least (c .args .x .vs30) 1100) (c .args .c .k1)
+hard c = capped (c .args .c) (c .args .x .vs30) (fair-of (c .args .c) (c .pre .0)) (c .pre .1 .vs30-low) (c .pre .1 .vs30-high)
+
+ln-quotient-requires-2 : tie.Need-ln-quotient-requires-2
+ln-quotient-requires-2 c κs =
+    let p = hard (c .before .before .before .before) in
+    rw (c .at-most-1100 .ensures)
+    (omega (arith, p .k-low), omega (arith, p .k-high), omega (arith, p .k-high, p .v-low), omega (arith, p .v-high, p .k-low))
+
+returns-2 : tie.Need-returns-2
+returns-2 c =
+    let e = c .before in
+    let s = e .before .before .before .before in
+    let q = quotient-size (least (s .args .x .vs30) 1100) (s .args .c .k1) (hard s) in
+    let n = sfits-abs (lnQuotient (least (s .args .x .vs30) 1100) (s .args .c .k1)) (omega (arith, q)) in
+    rw (hard-soil (s .args .c .k1) (s .args .x) (e .before .if1 .left))
+    (simp (c .ln-quotient2 .ensures, e .at-most-1100 .ensures, toZ-ofZ n))
+
+pub soil-of-spec : {M : Type 1} → statement M
+soil-of-spec =
+    tie.close
+    (tie.spec
+    ln-quotient-requires
+    curve-of-requires
+    add-ln-fixed
+    ln-fixed-requires
+    sub-gain
+    share-of-requires
+    cast-swing
+    cast-swing-2
+    sub-swing
+    returns
+    at-most-1100-requires
+    ln-quotient-requires-2
+    returns-2)

@@ -1,0 +1,38 @@
+-- What the functions of the rows hand from one to the other: what is worked out once for a request and once for a k1. Definitions only.
+use Prim.Native.Nat.{ℕ, _+_}
+use mathlib.Core.Bool.{true, false}
+use lib.Dec.{ltb}
+use lib.IntN.{pos, _-ℤ_}
+use Rattle.reckon.specs.Fixed.{lnFixed, lnQuotient}
+use Rattle.tables.specs.Tables.{deviationsAt}
+use Rattle.model.specs.declared.Scenario.{Scenario}
+use Rattle.measures.specs.declared.shared.Shared.{Shared}
+use Rattle.measures.specs.declared.site.Soil.{Soil}
+use Rattle.model.specs.Equations.{PGA, least}
+use Rattle.model.specs.Fixed.{wallFixed, deepFixed, rockPGAFixed, siteCFixed, shareFixed, curveFixed, atBaseFixed}
+
+-- once for a request
+unfoldable pub sharedOf : Scenario → Shared
+unfolding wallFixed deepFixed rockPGAFixed lnFixed atBaseFixed deviationsAt
+sharedOf x =
+    record {
+      wall = wallFixed x;
+      deep = deepFixed (x .z25);
+      rock = rockPGAFixed x;
+      log = lnFixed (rockPGAFixed x + siteCFixed);
+      share = shareFixed (rockPGAFixed x) siteCFixed;
+      sigma = atBaseFixed (deviationsAt PGA .s);
+    }
+
+-- once for a k1
+unfoldable pub soilOf : ℕ → Scenario → Soil
+unfolding lnQuotient lnFixed curveFixed rockPGAFixed
+soilOf k1 x = elim (ltb (x .vs30) k1) [
+  | true ↦ record {
+    k1 = k1;
+    ratio = lnQuotient (x .vs30) k1;
+    gain = lnFixed (rockPGAFixed x + curveFixed (x .vs30) k1) -ℤ lnFixed (rockPGAFixed x + siteCFixed);
+    swing = pos (shareFixed (rockPGAFixed x) (curveFixed (x .vs30) k1)) -ℤ pos (shareFixed (rockPGAFixed x) siteCFixed);
+  }
+  | false ↦ record { k1 = k1; ratio = lnQuotient (least (x .vs30) 1100) k1; gain = pos 0; swing = pos 0 }
+]

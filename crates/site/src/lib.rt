@@ -1,0 +1,102 @@
+// The site's response: what the measures of one k1 share, its term (11) and alpha (17), in units of
+// 10^-9.
+use crate::shared::Shared;
+use crate::shared::share_of;
+use model::Scenario;
+use reckon::exp_fixed;
+use reckon::ln_fixed;
+use reckon::ln_quotient;
+use reckon::mul_div;
+use tables::Coefficients;
+ghost use mathlib.Core.Path.{_≡_};
+ghost use Prim.Native.Nat.{_≤_, _<_};
+ghost use lib.IntN.{ℤ, natAbs};
+ghost use Rattle.model.specs.Equations.{least, linear};
+ghost use Rattle.model.specs.Accuracy.{InRange};
+ghost use Rattle.model.specs.Fixed.{curveOf, fSiteFixed, alphaFixed, rockPGAFixed};
+ghost use Rattle.model.specs.OfTables.{OfTable2};
+ghost use Rattle.measures.specs.Sharing.{sharedOf, soilOf};
+
+// What the measures of one k1 see of the soil: ln(V/k1), and below k1 by how much the logarithm and
+// the share of A1100 differ from those on rock.
+pub struct Soil {
+    pub k1: u64,
+    pub ratio: i64,
+    pub gain: i64,
+    pub swing: i64,
+}
+
+// c (V/k1)^n, from ln(V/k1).
+fn curve_of(ratio: i64) -> u64
+    requires { ⌜ (natAbs ratio ≤ 2000000005) × (curveOf ratio ≤ 1900000000) ⌝ }
+    ensures { λ r. ⌜ r ≡ curveOf ratio ⌝ }
+{
+    188 * exp_fixed(mul_div(118, ratio, 100)) / 1_000
+}
+
+// The smaller of Vs30 and 1100, from where on the response stays the same.
+fn at_most_1100(v: u64) -> u64
+    ensures { λ r. ⌜ r ≡ least v 1100 ⌝ }
+{
+    if v < 1_100 { v } else { 1_100 }
+}
+
+// The soil of a k1.
+pub fn soil_of(c: Coefficients, x: Scenario, s: Shared) -> Soil
+    requires { ⌜ OfTable2 c × InRange x × (s ≡ sharedOf x) ⌝ }
+    ensures { λ r. ⌜ r ≡ soilOf (c .k1) x ⌝ }
+{
+    if x.vs30 < c.k1 {
+        let ratio = ln_quotient(x.vs30, c.k1);
+        let curve = curve_of(ratio);
+        let gain = ln_fixed(s.rock + curve) - s.log;
+        let swing = share_of(s.rock, curve) as i64 - s.share as i64;
+        return Soil {
+            k1: c.k1,
+            ratio: ratio,
+            gain: gain,
+            swing: swing,
+        };
+    }
+    Soil {
+        k1: c.k1,
+        ratio: ln_quotient(at_most_1100(x.vs30), c.k1),
+        gain: 0,
+        swing: 0,
+    }
+}
+
+// c10 + k2 n, in units of 10^-5.
+fn linear_of(c: Coefficients) -> i64
+    requires { ⌜ OfTable2 c ⌝ }
+    ensures { λ r. ⌜ r ≡ linear c ⌝ }
+{
+    100 * c.c10 + 118 * c.k2
+}
+
+// The term at a Vs30 from k1 up, which reads no A1100.
+pub fn f_site_linear(c: Coefficients, v: u64) -> i64
+    requires { ⌜ OfTable2 c × (c .k1 ≤ v) × (v ≤ 1500) ⌝ }
+    ensures { λ r. ⌜ r ≡ fSiteFixed c v 0 ⌝ }
+{
+    mul_div(linear_of(c), ln_quotient(at_most_1100(v), c.k1), 100_000)
+}
+
+// The term at the site (11).
+pub fn f_site(c: Coefficients, x: Scenario, soil: Soil) -> i64
+    requires { ⌜ OfTable2 c × InRange x × (soil ≡ soilOf (c .k1) x) ⌝ }
+    ensures { λ r. ⌜ r ≡ fSiteFixed c (x .vs30) (rockPGAFixed x) ⌝ }
+{
+    if x.vs30 < soil.k1 {
+        return mul_div(c.c10, soil.ratio, 1_000) + mul_div(c.k2, soil.gain, 1_000);
+    }
+    mul_div(linear_of(c), soil.ratio, 100_000)
+}
+
+// Alpha (17): there is no swing from k1 up.
+pub fn alpha_of(c: Coefficients, x: Scenario, soil: Soil) -> i64
+    requires { ⌜ OfTable2 c × InRange x × (soil ≡ soilOf (c .k1) x) ⌝ }
+    ensures { λ r. ⌜ r ≡ alphaFixed c (x .vs30) (rockPGAFixed x) ⌝ }
+{
+    mul_div(c.k2, soil.swing, 1_000)
+}
