@@ -8,13 +8,13 @@ use lib.Seq.{getD-set-same, getD-set-other}
 use borrow.Author.Count.{below-more}
 use Rattle.model.specs.declared.Scenario.{Scenario}
 use Rattle.model.specs.declared.Row.{Row}
-use Rattle.measures.specs.declared.site.Soil.{Soil}
+use Rattle.site.specs.declared.Soil.{Soil}
 use Rattle.terms.specs.declared.Path.{Path}
 use Rattle.model.specs.Equations.{PGA}
 use Rattle.model.specs.Fixed.{noRow, rowFixed}
 use Rattle.terms.specs.Paths.{pathOf}
-use Rattle.measures.specs.Sharing.{soilOf}
-use Rattle.measures.proofs.SoilLaws.{soil-k1}
+use Rattle.site.specs.Sharing.{soilOf}
+use Rattle.site.proofs.SoilLaws.{soil-k1}
 
 pub record Filled (x : Scenario) (rows : List Row) (k : ℕ) : Type 0 where
   pub whole : length rows ≡ 24

@@ -1,2 +1,1 @@
-pub mod SoilLaws
 pub mod FilledRows

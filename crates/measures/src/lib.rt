@@ -1,24 +1,21 @@
 // The rows of the 24 measures, reckoned: from a request's completed figures to ln medians, medians
 // and sigmas. Each function equals a definition of model's specs/Fixed, of which model's proofs/ say
 // how near it lies to the exact value.
-mod shared;
-mod site;
-
 use model::Row;
 use model::Scenario;
 use reckon::exp_fixed;
 use reckon::round_div;
-use shared::PGA;
-use shared::Shared;
-use shared::shared_of;
 use sigmas::cross_at;
 use sigmas::intra_variance;
 use sigmas::linear_arbitrary_at;
 use sigmas::linear_total_at;
 use sigmas::sigma_or;
+use site::PGA;
+use site::Shared;
 use site::Soil;
 use site::alpha_of;
 use site::f_site;
+use site::shared_of;
 use site::soil_of;
 use tables::Coefficients;
 use tables::Deviations;
@@ -36,7 +33,7 @@ ghost use Rattle.model.specs.Equations.{most};
 ghost use Rattle.model.specs.Fixed.{rowFixed, lnMedianFixed, noRow};
 ghost use Rattle.model.specs.OfTables.{OfTable2};
 ghost use Rattle.terms.specs.Paths.{pathOf};
-ghost use Rattle.measures.specs.Sharing.{soilOf, sharedOf};
+ghost use Rattle.site.specs.Sharing.{soilOf, sharedOf};
 
 // The ln median of a measure, in units of 10^-9.
 fn ln_median(i: usize, c: Coefficients, x: Scenario, s: Shared, path: Path, soil: Soil) -> i64

@@ -1,4 +1,5 @@
 pub mod Fitting
+pub mod Heron
 pub mod Shifts
 pub mod LnTerms
 pub mod LnTwos

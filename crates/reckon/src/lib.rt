@@ -11,6 +11,7 @@ mod sine;
 pub use exp::exp_fixed;
 pub use ln::ln_fixed;
 pub use ln::ln_quotient;
+pub use root::long_root;
 pub use root::whole_root;
 pub use signed::mul_div;
 pub use signed::round_div;

@@ -13,3 +13,22 @@ pub fn whole_root(n: u64) -> u64
     let high = low + 1;
     if high * high <= n { high } else { low }
 }
+
+// From here on one step of Heron's rule is enough.
+const LEAST_LONG: u64 = 300_000_000_000;
+
+// Up to here no product leaves the 64 bits.
+const MOST_LONG: u64 = 1_000_000_000_000_000;
+
+// The root of a long number: that of its upper half, by quarters, then one step of Heron's rule, which
+// ends at the root or one above it.
+pub fn long_root(n: u64) -> u64
+    ensures { λ r. ⌜ r ≡ root n ⌝ }
+{
+    if n < LEAST_LONG || MOST_LONG < n {
+        return whole_root(n);
+    }
+    let above = (whole_root(n / 1_048_576) + 1) * 1_024;
+    let near = (above + n / above) / 2;
+    if near * near <= n { near } else { near - 1 }
+}

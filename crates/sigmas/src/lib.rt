@@ -1,5 +1,6 @@
 // The sigmas (14 to 18), from variances in units of 10^-9. Each function equals a definition of model's
 // specs/Fixed.
+use reckon::long_root;
 use reckon::mul_div;
 use reckon::whole_root;
 use tables::Deviations;
@@ -81,7 +82,7 @@ pub fn sigma_of(v: u64) -> u64
     requires { ⌜ v ≤ 2400000000 ⌝ }
     ensures { λ r. ⌜ r ≡ sigmaOf v ⌝ }
 {
-    (whole_root(4_000 * v) + 1) / 2
+    (long_root(4_000 * v) + 1) / 2
 }
 
 // The total sigma (16) on a linear site, which Table 3 alone fixes, as it does `CROSS`.

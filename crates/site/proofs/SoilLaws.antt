@@ -11,12 +11,12 @@ use Rattle.exact.proofs.Signed.{by-sign, abs-parts, sub-is}
 use Rattle.reckon.specs.Fixed.{E9, lnFixed, lnQuotient}
 use Rattle.tables.specs.declared.Coefficients.{Coefficients}
 use Rattle.model.specs.declared.Scenario.{Scenario}
-use Rattle.measures.specs.declared.site.Soil.{Soil}
+use Rattle.site.specs.declared.Soil.{Soil}
 use Rattle.model.specs.Accuracy.{InRange}
 use Rattle.model.specs.Equations.{least}
 use Rattle.model.specs.Fixed.{curveFixed, rockPGAFixed, shareFixed, siteCFixed}
 use Rattle.model.specs.OfTables.{OfTable2}
-use Rattle.measures.specs.Sharing.{soilOf}
+use Rattle.site.specs.Sharing.{soilOf}
 use Rattle.model.proofs.Curve.{Paired, quotient-size}
 use Rattle.model.proofs.Median.{rock-is-near}
 use Rattle.model.proofs.OfTables.{fair-of}

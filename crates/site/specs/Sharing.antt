@@ -6,8 +6,8 @@ use lib.IntN.{pos, _-ℤ_}
 use Rattle.reckon.specs.Fixed.{lnFixed, lnQuotient}
 use Rattle.tables.specs.Tables.{deviationsAt}
 use Rattle.model.specs.declared.Scenario.{Scenario}
-use Rattle.measures.specs.declared.shared.Shared.{Shared}
-use Rattle.measures.specs.declared.site.Soil.{Soil}
+use Rattle.site.specs.declared.shared.Shared.{Shared}
+use Rattle.site.specs.declared.Soil.{Soil}
 use Rattle.model.specs.Equations.{PGA, least}
 use Rattle.model.specs.Fixed.{wallFixed, deepFixed, rockPGAFixed, siteCFixed, shareFixed, curveFixed, atBaseFixed}
 

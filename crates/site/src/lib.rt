@@ -1,12 +1,17 @@
-// The site's response: what the measures of one k1 share, its term (11) and alpha (17), in units of
-// 10^-9.
-use crate::shared::Shared;
-use crate::shared::share_of;
+// The site's response: what all measures of a request share, A1100 among it; what the measures of one
+// k1 share; the site's term (11) and alpha (17), in units of 10^-9. Each function equals a definition of
+// model's specs/Fixed or of specs/Sharing.
+mod shared;
+
 use model::Scenario;
 use reckon::exp_fixed;
 use reckon::ln_fixed;
 use reckon::ln_quotient;
 use reckon::mul_div;
+pub use shared::PGA;
+pub use shared::Shared;
+use shared::share_of;
+pub use shared::shared_of;
 use tables::Coefficients;
 ghost use mathlib.Core.Path.{_≡_};
 ghost use Prim.Native.Nat.{_≤_, _<_};
@@ -15,7 +20,7 @@ ghost use Rattle.model.specs.Equations.{least, linear};
 ghost use Rattle.model.specs.Accuracy.{InRange};
 ghost use Rattle.model.specs.Fixed.{curveOf, fSiteFixed, alphaFixed, rockPGAFixed};
 ghost use Rattle.model.specs.OfTables.{OfTable2};
-ghost use Rattle.measures.specs.Sharing.{sharedOf, soilOf};
+ghost use Rattle.site.specs.Sharing.{sharedOf, soilOf};
 
 // What the measures of one k1 see of the soil: ln(V/k1), and below k1 by how much the logarithm and
 // the share of A1100 differ from those on rock.

@@ -1,6 +1,6 @@
 // What all measures of a request share: the hanging wall's and the basin's factors, and the rock's
 // PGA with what is made of it.
-use crate::site::f_site_linear;
+use crate::f_site_linear;
 use factors::deep_of;
 use factors::wall_of;
 use model::Scenario;
@@ -18,7 +18,7 @@ ghost use Rattle.model.specs.Equations.{PGA};
 ghost use Rattle.model.specs.Accuracy.{InRange};
 ghost use Rattle.model.specs.Fixed.{wallFixed, deepFixed, rockPGAFixed, shareFixed};
 ghost use Rattle.terms.specs.Paths.{pathOf};
-ghost use Rattle.measures.specs.Sharing.{sharedOf};
+ghost use Rattle.site.specs.Sharing.{sharedOf};
 
 // One and c, in units of 10^-9.
 const E9: u64 = 1_000_000_000;

@@ -10,10 +10,10 @@ use mir.Facts.{toZ-ofZ}
 use Rattle.exact.proofs.Signed.{sfits, sfits-abs}
 use Rattle.tables.specs.declared.Coefficients.{Coefficients}
 use Rattle.tables.specs.Tables.{coefficientsAt}
-use Rattle.measures.specs.declared.shared.Shared.{Shared}
+use Rattle.site.specs.declared.shared.Shared.{Shared}
 use Rattle.model.specs.Fixed.{wallFixed, deepFixed, fSiteFixed, rockPGAFixed, lnSum, lnMedianAtFixed, lnMedianFixed}
 use Rattle.model.specs.OfTables.{OfTable2}
-use Rattle.measures.specs.Sharing.{sharedOf}
+use Rattle.site.specs.Sharing.{sharedOf}
 use Rattle.model.proofs.Median.{rock-is-near, lnMedian-size}
 use Rattle.model.proofs.OfTables.{fair-of, of-row}
 use Rattle.model.proofs.Sizes.{fSite-size}

@@ -16,13 +16,13 @@ use Rattle.tables.specs.declared.Coefficients.{Coefficients}
 use Rattle.tables.specs.declared.Deviations.{Deviations}
 use Rattle.tables.specs.Tables.{coefficientsAt, deviationsAt}
 use Rattle.model.specs.declared.Scenario.{Scenario}
-use Rattle.measures.specs.declared.shared.Shared.{Shared}
+use Rattle.site.specs.declared.shared.Shared.{Shared}
 use Rattle.model.specs.Accuracy.{InRange}
 use Rattle.model.specs.Equations.{PGA}
 use Rattle.model.specs.Fixed.{alphaFixed, atBaseFixed, crossFixed, intraVarianceFixed, lnMedianFixed, rockPGAFixed, rowFixed, sigmaOf, varianceFixed}
 use Rattle.model.specs.OfTables.{OfTable3}
 use Rattle.sigmas.specs.LinearSites.{linearArbitrary, linearTotal}
-use Rattle.measures.specs.Sharing.{sharedOf}
+use Rattle.site.specs.Sharing.{sharedOf}
 use Rattle.model.proofs.Fair.{fair-at, spread-at}
 use Rattle.model.proofs.Median.{rock-is-near, lnMedian-size}
 use Rattle.sigmas.proofs.LinearSite.{flat, squareOf, whole-sigma}

@@ -15,16 +15,16 @@ use Rattle.reckon.specs.Fixed.{mulDiv}
 use Rattle.reckon.proofs.SignedLaws.{mulDiv-zero}
 use Rattle.tables.specs.declared.Coefficients.{Coefficients}
 use Rattle.model.specs.declared.Scenario.{Scenario}
-use Rattle.measures.specs.declared.site.Soil.{Soil}
+use Rattle.site.specs.declared.Soil.{Soil}
 use Rattle.model.specs.Accuracy.{InRange}
 use Rattle.model.specs.Fixed.{alphaFixed, rockPGAFixed}
 use Rattle.model.specs.OfTables.{OfTable2}
-use Rattle.measures.specs.Sharing.{soilOf}
+use Rattle.site.specs.Sharing.{soilOf}
 use Rattle.model.proofs.OfTables.{fair-of}
 use Rattle.model.proofs.Sizes.{share-size}
-use Rattle.measures.proofs.SoilLaws.{soil-by, soil-small}
-use Rattle.measures.proofs.site.alpha_of.Statement.{statement}
-use Rattle.measures.proofs.site.alpha_of.Tie as tie
+use Rattle.site.proofs.SoilLaws.{soil-by, soil-small}
+use Rattle.site.proofs.alpha_of.Statement.{statement}
+use Rattle.site.proofs.alpha_of.Tie as tie
 
 record Steps (c : Coefficients) (z : ℤ) : Type 0 where
   k2-fits : SFits w64 (c .k2)

@@ -1,8 +1,8 @@
 -- The two cases are the definition's. Assumes nothing.
 use borrow.Author.Tests.{lt-ltb, le-ltb}
 use Rattle.model.specs.Equations.{least}
-use Rattle.measures.proofs.site.at_most_1100.Statement.{statement}
-use Rattle.measures.proofs.site.at_most_1100.Tie as tie
+use Rattle.site.proofs.at_most_1100.Statement.{statement}
+use Rattle.site.proofs.at_most_1100.Tie as tie
 
 returns : tie.Need-returns
 returns c = rw (lt-ltb (c .before .args .v) 1100 (c .if1 .taken), least)

@@ -14,8 +14,8 @@ use Rattle.exact.proofs.Signed.{sfits-abs, abs-parts}
 use Rattle.reckon.specs.Fixed.{mulDiv, expFixed}
 use Rattle.model.specs.Fixed.{curveOf}
 use Rattle.model.proofs.Sizes.{share-size}
-use Rattle.measures.proofs.site.curve_of.Statement.{statement}
-use Rattle.measures.proofs.site.curve_of.Tie as tie
+use Rattle.site.proofs.curve_of.Statement.{statement}
+use Rattle.site.proofs.curve_of.Tie as tie
 
 record Steps (l : ℤ) : Type 0 where
   l-fits : SFits w64 l

@@ -20,8 +20,8 @@ use Rattle.model.proofs.Curve.{Paired, quotient-size}
 use Rattle.model.proofs.OfTables.{fair-of}
 use Rattle.model.proofs.SiteNear.{capped}
 use Rattle.model.proofs.Sizes.{share-size}
-use Rattle.measures.proofs.site.f_site_linear.Statement.{statement}
-use Rattle.measures.proofs.site.f_site_linear.Tie as tie
+use Rattle.site.proofs.f_site_linear.Statement.{statement}
+use Rattle.site.proofs.f_site_linear.Tie as tie
 
 record Steps (c : Coefficients) (v : ℕ) : Type 0 where
   paired : Paired (least v 1100) (c .k1)

@@ -10,8 +10,8 @@ use Rattle.tables.specs.declared.Coefficients.{Coefficients}
 use Rattle.model.specs.Equations.{linear}
 use Rattle.model.specs.OfTables.{OfTable2}
 use Rattle.model.proofs.OfTables.{fair-of}
-use Rattle.measures.proofs.site.linear_of.Statement.{statement}
-use Rattle.measures.proofs.site.linear_of.Tie as tie
+use Rattle.site.proofs.linear_of.Statement.{statement}
+use Rattle.site.proofs.linear_of.Tie as tie
 
 record Steps (c : Coefficients) : Type 0 where
   c10-fits : SFits w64 (c .c10)

@@ -13,20 +13,20 @@ use Rattle.exact.proofs.Signed.{sfits-abs}
 use Rattle.reckon.specs.Fixed.{E9, lnFixed, lnQuotient}
 use Rattle.tables.specs.declared.Coefficients.{Coefficients}
 use Rattle.model.specs.declared.Scenario.{Scenario}
-use Rattle.measures.specs.declared.shared.Shared.{Shared}
+use Rattle.site.specs.declared.shared.Shared.{Shared}
 use Rattle.model.specs.Accuracy.{InRange}
 use Rattle.model.specs.Equations.{least}
 use Rattle.model.specs.Fixed.{curveOf, curveFixed, rockPGAFixed, shareFixed, siteCFixed}
 use Rattle.model.specs.OfTables.{OfTable2}
-use Rattle.measures.specs.Sharing.{sharedOf, soilOf}
+use Rattle.site.specs.Sharing.{sharedOf, soilOf}
 use Rattle.model.proofs.Curve.{Paired, quotient-size, curve-low-fixed, curve-high-fixed}
 use Rattle.model.proofs.Median.{rock-is-near}
 use Rattle.model.proofs.OfTables.{fair-of}
 use Rattle.model.proofs.SiteNear.{paired, capped}
 use Rattle.model.proofs.Sizes.{log-size, logarithms-size}
-use Rattle.measures.proofs.SoilLaws.{soft-soil, hard-soil, share-le, swing-le}
-use Rattle.measures.proofs.site.soil_of.Statement.{statement}
-use Rattle.measures.proofs.site.soil_of.Tie as tie
+use Rattle.site.proofs.SoilLaws.{soft-soil, hard-soil, share-le, swing-le}
+use Rattle.site.proofs.soil_of.Statement.{statement}
+use Rattle.site.proofs.soil_of.Tie as tie
 
 -- ---- below k1
 record Soft (v k1 a : ℕ) : Type 0 where

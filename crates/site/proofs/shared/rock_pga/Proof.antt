@@ -21,8 +21,8 @@ use Rattle.model.specs.OfTables.{OfTable2}
 use Rattle.model.proofs.OfTables.{fair-of, pga-row}
 use Rattle.model.proofs.Rock.{rock-ln-size}
 use Rattle.model.proofs.Sizes.{linear-site-size}
-use Rattle.measures.proofs.shared.rock_pga.Statement.{statement}
-use Rattle.measures.proofs.shared.rock_pga.Tie as tie
+use Rattle.site.proofs.shared.rock_pga.Statement.{statement}
+use Rattle.site.proofs.shared.rock_pga.Tie as tie
 
 site-small : (c : tie.Start) → natAbs (fSiteFixed (c .args .c) 1100 0) ≤ 13100000000
 site-small c =

@@ -13,12 +13,12 @@ use Rattle.reckon.specs.Fixed.{lnFixed}
 use Rattle.tables.specs.Tables.{deviationsAt}
 use Rattle.model.specs.Equations.{PGA}
 use Rattle.model.specs.Fixed.{rockPGAFixed, siteCFixed}
-use Rattle.measures.specs.Sharing.{sharedOf}
+use Rattle.site.specs.Sharing.{sharedOf}
 use Rattle.model.proofs.Fair.{spread-at}
 use Rattle.model.proofs.Rock.{rock-top-fixed}
 use Rattle.model.proofs.Sizes.{log-size}
-use Rattle.measures.proofs.shared.shared_of.Statement.{statement}
-use Rattle.measures.proofs.shared.shared_of.Tie as tie
+use Rattle.site.proofs.shared.shared_of.Statement.{statement}
+use Rattle.site.proofs.shared.shared_of.Tie as tie
 
 rock-high : (c : tie.After-rock-pga) → c .rock-pga .result ≤ 1490000000
 rock-high c =
