@@ -5,10 +5,9 @@ use model::Row;
 use model::Scenario;
 use reckon::exp_fixed;
 use reckon::round_div;
-use sigmas::cross_at;
+use sigmas::Settled;
+use sigmas::all_settled;
 use sigmas::intra_variance;
-use sigmas::linear_arbitrary_at;
-use sigmas::linear_total_at;
 use sigmas::sigma_or;
 use site::PGA;
 use site::Shared;
@@ -33,6 +32,7 @@ ghost use Rattle.model.specs.Equations.{most};
 ghost use Rattle.model.specs.Fixed.{rowFixed, lnMedianFixed, noRow};
 ghost use Rattle.model.specs.OfTables.{OfTable2};
 ghost use Rattle.terms.specs.Paths.{pathOf};
+ghost use Rattle.sigmas.specs.Settling.{settledOf};
 ghost use Rattle.site.specs.Sharing.{soilOf, sharedOf};
 
 // The ln median of a measure, in units of 10^-9.
@@ -55,17 +55,18 @@ fn row_from(
     i: usize,
     c: Coefficients,
     d: Deviations,
+    f: Settled,
     x: Scenario,
     s: Shared,
     path: Path,
     soil: Soil,
 ) -> Row
-    requires { ⌜ (i < 24) × (c ≡ coefficientsAt i) × (d ≡ deviationsAt i) × InRange x × (s ≡ sharedOf x) × (path ≡ pathOf (c .c6) x) × (soil ≡ soilOf (c .k1) x) ⌝ }
+    requires { ⌜ (i < 24) × (c ≡ coefficientsAt i) × (d ≡ deviationsAt i) × InRange x × (s ≡ sharedOf x) × (path ≡ pathOf (c .c6) x) × (soil ≡ soilOf (c .k1) x) × (f ≡ settledOf (deviationsAt i)) ⌝ }
     ensures { λ r. ⌜ r ≡ rowFixed i x ⌝ }
 {
     let l = ln_median(i, c, x, s, path, soil);
     let alpha = alpha_of(c, x, soil);
-    let intra = intra_variance(d, cross_at(i), alpha, s.sigma);
+    let intra = intra_variance(d, f.cross, alpha, s.sigma);
     let total = intra + d.t * d.t * 1_000;
     let arbitrary = total + d.sC * d.sC * 1_000;
     let inter = d.t * 1_000;
@@ -74,8 +75,8 @@ fn row_from(
         median: at_least_one(exp_fixed(l)),
         intra: sigma_or(alpha, d.s * 1_000, intra),
         inter: inter,
-        total: sigma_or(alpha, linear_total_at(i), total),
-        arbitrary: sigma_or(alpha, linear_arbitrary_at(i), arbitrary),
+        total: sigma_or(alpha, f.total, total),
+        arbitrary: sigma_or(alpha, f.arbitrary, arbitrary),
     }
 }
 
@@ -86,12 +87,14 @@ pub fn row_at(i: usize, x: Scenario) -> Row
 {
     let table2 = all_coefficients();
     let table3 = all_deviations();
+    let settled = all_settled();
     let rock = table2[PGA];
     let base = table3[PGA];
     let c = table2[i];
     let d = table3[i];
+    let f = settled[i];
     let s = shared_of(rock, base, x, path_of(rock, x));
-    row_from(i, c, d, x, s, path_of(c, x), soil_of(c, x, s))
+    row_from(i, c, d, f, x, s, path_of(c, x), soil_of(c, x, s))
 }
 
 // The path of a measure: the last one's, where that has the same c6.
@@ -133,20 +136,23 @@ pub fn rows_of(x: Scenario) -> [Row; 24]
     let mut rows = [none; 24];
     let table2 = all_coefficients();
     let table3 = all_deviations();
+    let settled = all_settled();
     let pga = table2[PGA];
     let base = table3[PGA];
+    let known = settled[PGA];
     let mut path = path_of(pga, x);
     let s = shared_of(pga, base, x, path);
     let mut soil = soil_of(pga, x, s);
-    rows[PGA] = row_from(PGA, pga, base, x, s, path, soil);
+    rows[PGA] = row_from(PGA, pga, base, known, x, s, path, soil);
     let mut k = 0usize;
     while k < 24 {
         if k != PGA {
             let c = table2[k];
             let d = table3[k];
+            let f = settled[k];
             path = next_path(path, c, x);
             soil = next_soil(soil, c, x, s);
-            rows[k] = row_from(k, c, d, x, s, path, soil);
+            rows[k] = row_from(k, c, d, f, x, s, path, soil);
         }
         k += 1;
     }

@@ -1,1 +1,2 @@
 pub mod LinearSite
+pub mod SettledRows

@@ -1,1 +1,1 @@
-pub mod LinearSites
+pub mod Settling

@@ -21,7 +21,8 @@ use Rattle.model.specs.Accuracy.{InRange}
 use Rattle.model.specs.Equations.{PGA}
 use Rattle.model.specs.Fixed.{alphaFixed, atBaseFixed, crossFixed, intraVarianceFixed, lnMedianFixed, rockPGAFixed, rowFixed, sigmaOf, varianceFixed}
 use Rattle.model.specs.OfTables.{OfTable3}
-use Rattle.sigmas.specs.LinearSites.{linearArbitrary, linearTotal}
+use Rattle.sigmas.specs.declared.Settled.{Settled}
+use Rattle.sigmas.specs.Settling.{linearArbitrary, linearTotal, settledOf}
 use Rattle.site.specs.Sharing.{sharedOf}
 use Rattle.model.proofs.Fair.{fair-at, spread-at}
 use Rattle.model.proofs.Median.{rock-is-near, lnMedian-size}
@@ -90,17 +91,21 @@ alpha-is c =
     let s = c .before .before in
     c .alpha-of .ensures ∙ ap (λ (r : Coefficients). alphaFixed r (s .args .x .vs30) (rockPGAFixed (s .args .x))) (s .pre .1)
 
-cross-at-requires : tie.Need-cross-at-requires
-cross-at-requires c κs = c .before .before .pre .0
+-- what Table 3 alone fixes, of the row handed over
+settled-is : (c : tie.Start) → c .args .f ≡ settledOf (c .args .d)
+settled-is c = c .pre .7 ∙ ap settledOf (sym (c .pre .2))
+
+cross-is : (c : tie.Start) → c .args .f .cross ≡ crossFixed (c .args .d)
+unfolding settledOf
+cross-is c = ap (λ (f : Settled). f .cross) (settled-is c)
 
 intra-variance-requires : tie.Need-intra-variance-requires
 intra-variance-requires c κs =
-    let a = c .before in
-    let s = a .before .before in
+    let s = c .before .before in
     let f = at s in
-    simp (alpha-is a, toZ-ofZ (f .alpha-fits)) (
+    simp (alpha-is c, toZ-ofZ (f .alpha-fits)) (
       record { i = s .args .i; below = s .pre .0; is = s .pre .2 },
-      c .cross-at .ensures ∙ ap crossFixed (sym (s .pre .2)),
+      cross-is s,
       f .alpha-small,
       sigma-is s,
     )
@@ -108,79 +113,79 @@ intra-variance-requires c κs =
 -- alpha, at the place of the variance
 abbrev alphaAt : tie.After-intra-variance → ℤ
 alphaAt c =
-    let s = c .before .before .before .before in
+    let s = c .before .before .before in
     alphaFixed (coefficientsAt (s .args .i)) (s .args .x .vs30) (rockPGAFixed (s .args .x))
 
 -- the variance, of the row handed over and of the measure's number
 variance-here :
     (c : tie.After-intra-variance)
-    → c .intra-variance .result ≡ up (intraVarianceFixed (c .before .before .before .before .args .d) (alphaAt c))
+    → c .intra-variance .result ≡ up (intraVarianceFixed (c .before .before .before .args .d) (alphaAt c))
 variance-here c =
-    let a = c .before .before in
+    let a = c .before in
     let f = at (a .before .before) in
     simp (alpha-is a, toZ-ofZ (f .alpha-fits)) at (c .intra-variance .ensures)
 
 intra-is :
     (c : tie.After-intra-variance)
-    → c .intra-variance .result ≡ varianceFixed (c .before .before .before .before .args .i) (c .before .before .before .before .args .x)
+    → c .intra-variance .result ≡ varianceFixed (c .before .before .before .args .i) (c .before .before .before .args .x)
 unfolding varianceFixed
 intra-is c =
-    let s = c .before .before .before .before in
+    let s = c .before .before .before in
     variance-here c ∙ ap (λ (d : Deviations). up (intraVarianceFixed d (alphaAt c))) (s .pre .2)
 
 mul-total : tie.Need-mul-total
 mul-total c =
-    let s = c .before .before .before .before .before in
+    let s = c .before .before .before .before in
     let f = at s in
     rw (s .pre .2) (record { fits = omega (arith, f .t2) })
 
 mul-total-2 : tie.Need-mul-total-2
 mul-total-2 c =
-    let s = c .before .before .before .before .before in
+    let s = c .before .before .before .before in
     let f = at s in
     rw (s .pre .2) (record { fits = omega (arith, f .t2) })
 
 add-total : tie.Need-add-total
 add-total c =
     let v = c .before in
-    let s = v .before .before .before .before in
+    let s = v .before .before .before in
     let f = at s in
     rw (intra-is v, s .pre .2) (record { fits = omega (arith, f .t2, f .variance-high) })
 
 mul-arbitrary : tie.Need-mul-arbitrary
 mul-arbitrary c =
-    let s = c .before .before .before .before .before .before in
+    let s = c .before .before .before .before .before in
     let f = at s in
     rw (s .pre .2) (record { fits = omega (arith, f .sC2) })
 
 mul-arbitrary-2 : tie.Need-mul-arbitrary-2
 mul-arbitrary-2 c =
-    let s = c .before .before .before .before .before .before in
+    let s = c .before .before .before .before .before in
     let f = at s in
     rw (s .pre .2) (record { fits = omega (arith, f .sC2) })
 
 add-arbitrary : tie.Need-add-arbitrary
 add-arbitrary c =
     let v = c .before .before in
-    let s = v .before .before .before .before in
+    let s = v .before .before .before in
     let f = at s in
     rw (intra-is v, s .pre .2) (record { fits = omega (arith, f .t2, f .sC2, f .variance-high) })
 
 mul-inter : tie.Need-mul-inter
 mul-inter c =
-    let s = c .before .before .before .before .before .before .before in
+    let s = c .before .before .before .before .before .before in
     let f = at s in
     rw (s .pre .2) (record { fits = omega (arith, f .t-high) })
 
 round-div-requires : tie.Need-round-div-requires
 round-div-requires c κs =
-    let l = c .before .before .before .before .before .before in
+    let l = c .before .before .before .before .before in
     let f = at (l .before) in
     simp (l .ln-median .ensures, toZ-ofZ (f .ln-fits)) (omega (arith, f .ln-abs), lit≤ tt, lit≤ tt)
 
 exp-fixed-requires : tie.Need-exp-fixed-requires
 exp-fixed-requires c κs =
-    let l = c .before .before .before .before .before .before .before in
+    let l = c .before .before .before .before .before .before in
     let f = at (l .before) in
     simp (l .ln-median .ensures, toZ-ofZ (f .ln-fits)) (le-trans (f .ln-high) (lit≤ tt), le-trans (f .ln-low) (lit≤ tt))
 
@@ -195,24 +200,24 @@ varianceAt c = c .before .before .before .before .before .before .before
 -- the total and the arbitrary-component variance
 abbrev totalAt : tie.After-intra-variance → ℕ
 totalAt c =
-    let d = c .before .before .before .before .args .d in
+    let d = c .before .before .before .args .d in
     c .intra-variance .result + d .t * d .t * 1000
 
 abbrev arbitraryAt : tie.After-intra-variance → ℕ
 arbitraryAt c =
-    let d = c .before .before .before .before .args .d in
+    let d = c .before .before .before .args .d in
     totalAt c + d .sC * d .sC * 1000
 
 -- and their sizes
 total-high : (c : tie.After-intra-variance) → totalAt c ≤ 2400000000
 total-high c =
-    let s = c .before .before .before .before in
+    let s = c .before .before .before in
     let f = at s in
     rw (intra-is c, s .pre .2) (omega (arith, f .variance-high, f .t2))
 
 arbitrary-high : (c : tie.After-intra-variance) → arbitraryAt c ≤ 2400000000
 arbitrary-high c =
-    let s = c .before .before .before .before in
+    let s = c .before .before .before in
     let f = at s in
     rw (intra-is c, s .pre .2) (omega (arith, f .variance-high, f .t2, f .sC2))
 
@@ -220,20 +225,20 @@ arbitrary-high c =
 linear-here :
     (c : tie.After-intra-variance)
     → alphaAt c ≡ pos 0
-    → squareOf (c .before .before .before .before .args .d) ≡ c .intra-variance .result
+    → squareOf (c .before .before .before .args .d) ≡ c .intra-variance .result
 linear-here c h =
-    let d = c .before .before .before .before .args .d in
+    let d = c .before .before .before .args .d in
     flat d ∙ ap (λ (z : ℤ). up (intraVarianceFixed d z)) (sym h) ∙ sym (variance-here c)
 
 mul-sigma-or : tie.Need-mul-sigma-or
 mul-sigma-or c =
-    let s = varianceAt c .before .before .before .before in
+    let s = varianceAt c .before .before .before in
     rw (s .pre .2) (record { fits = omega (arith, at s .s-high) })
 
 sigma-or-requires : tie.Need-sigma-or-requires
 sigma-or-requires c κs =
     let v = varianceAt c in
-    let a = v .before .before in
+    let a = v .before in
     let s = a .before .before in
     let f = at s in
     simp (alpha-is a, toZ-ofZ (f .alpha-fits)) (
@@ -241,62 +246,47 @@ sigma-or-requires c κs =
       subst (λ (n : ℕ). n ≤ 2400000000) (sym (intra-is v)) (le-trans (f .variance-high) (lit≤ tt)),
     )
 
-linear-total-at-requires : tie.Need-linear-total-at-requires
-linear-total-at-requires c κs = varianceAt (c .before) .before .before .before .before .pre .0
-
 -- the total sigma, where alpha is 0
-total-here :
-    (c : tie.After-linear-total-at)
-    → alphaAt (varianceAt (c .before .before)) ≡ pos 0
-    → c .linear-total-at .result ≡ sigmaOf (totalAt (varianceAt (c .before .before)))
-unfolding linearTotal
+total-here : (c : tie.After-intra-variance) → alphaAt c ≡ pos 0 → c .before .before .before .args .f .total ≡ sigmaOf (totalAt c)
+unfolding linearTotal settledOf
 total-here c h =
-    let v = varianceAt (c .before .before) in
-    let s = v .before .before .before .before in
+    let s = c .before .before .before in
     let d = s .args .d in
-    c .linear-total-at .ensures
-    ∙ ap linearTotal (sym (s .pre .2))
-    ∙ ap (λ (n : ℕ). sigmaOf (n + d .t * d .t * 1000)) (linear-here v h)
+    ap (λ (f : Settled). f .total) (settled-is s)
+    ∙ ap (λ (n : ℕ). sigmaOf (n + d .t * d .t * 1000)) (linear-here c h)
 
 sigma-or-requires-2 : tie.Need-sigma-or-requires-2
 sigma-or-requires-2 c κs =
-    let v = varianceAt (c .before .before) in
-    let a = v .before .before in
-    simp (alpha-is a, toZ-ofZ (at (a .before .before) .alpha-fits)) (total-here c, total-high v)
-
-linear-arbitrary-at-requires : tie.Need-linear-arbitrary-at-requires
-linear-arbitrary-at-requires c κs = varianceAt (c .before .before .before) .before .before .before .before .pre .0
+    let v = varianceAt (c .before) in
+    let a = v .before in
+    simp (alpha-is a, toZ-ofZ (at (a .before .before) .alpha-fits)) (total-here v, total-high v)
 
 -- the sigma of an arbitrary component, where alpha is 0
 arbitrary-here :
-    (c : tie.After-linear-arbitrary-at)
-    → alphaAt (varianceAt (c .before .before .before .before)) ≡ pos 0
-    → c .linear-arbitrary-at .result ≡ sigmaOf (arbitraryAt (varianceAt (c .before .before .before .before)))
-unfolding linearArbitrary
+    (c : tie.After-intra-variance) → alphaAt c ≡ pos 0 → c .before .before .before .args .f .arbitrary ≡ sigmaOf (arbitraryAt c)
+unfolding linearArbitrary settledOf
 arbitrary-here c h =
-    let v = varianceAt (c .before .before .before .before) in
-    let s = v .before .before .before .before in
+    let s = c .before .before .before in
     let d = s .args .d in
-    c .linear-arbitrary-at .ensures
-    ∙ ap linearArbitrary (sym (s .pre .2))
-    ∙ ap (λ (n : ℕ). sigmaOf (n + d .t * d .t * 1000 + d .sC * d .sC * 1000)) (linear-here v h)
+    ap (λ (f : Settled). f .arbitrary) (settled-is s)
+    ∙ ap (λ (n : ℕ). sigmaOf (n + d .t * d .t * 1000 + d .sC * d .sC * 1000)) (linear-here c h)
 
 sigma-or-requires-3 : tie.Need-sigma-or-requires-3
 sigma-or-requires-3 c κs =
-    let v = varianceAt (c .before .before .before .before) in
-    let a = v .before .before in
-    simp (alpha-is a, toZ-ofZ (at (a .before .before) .alpha-fits)) (arbitrary-here c, arbitrary-high v)
+    let v = varianceAt (c .before .before) in
+    let a = v .before in
+    simp (alpha-is a, toZ-ofZ (at (a .before .before) .alpha-fits)) (arbitrary-here v, arbitrary-high v)
 
 returns : tie.Need-returns
 unfolding rowFixed
 returns c =
-    let t = c .before .before in
-    let n = t .before .before in
+    let t = c .before in
+    let n = t .before in
     let o = n .before .before in
     let e = o .before in
     let r = e .before in
     let v = r .before .before .before .before in
-    let l = v .before .before .before in
+    let l = v .before .before in
     let s = l .before in
     let f = at s in
     simp (
@@ -319,7 +309,6 @@ row-from-spec =
     (tie.spec
     ln-median-requires
     alpha-of-requires
-    cross-at-requires
     intra-variance-requires
     mul-total
     mul-total-2
@@ -333,8 +322,6 @@ row-from-spec =
     at-least-one-requires
     mul-sigma-or
     sigma-or-requires
-    linear-total-at-requires
     sigma-or-requires-2
-    linear-arbitrary-at-requires
     sigma-or-requires-3
     returns)

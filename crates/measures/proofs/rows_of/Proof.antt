@@ -18,6 +18,7 @@ use Rattle.terms.specs.Paths.{pathOf}
 use Rattle.site.specs.Sharing.{soilOf, sharedOf}
 use Rattle.measures.proofs.FilledRows.{Filled, set-filled, pass-filled, path-again, soil-again}
 use Rattle.model.proofs.OfTables.{of-row, read-2, read-3}
+use Rattle.sigmas.proofs.SettledRows.{read-settled}
 use Rattle.measures.proofs.rows_of.Statement.{statement}
 use Rattle.measures.proofs.rows_of.Tie as tie
 
@@ -36,10 +37,10 @@ same-turn x k {rows} {rows'} {path} {path'} {soil} {soil'} e f g t =
     (subst (λ (p : Path). Turn x rows' p soil k) (sym f) (subst (λ (s : Soil). Turn x rows' path' s k) (sym g) t))
 
 abbrev Inv-loop : tie.InvT-loop
-Inv-loop x rows₀ table2 table3 path₀ s soil₀ k₀ rows path soil k = Turn x rows path soil k
+Inv-loop x rows₀ table2 table3 settled path₀ s soil₀ k₀ rows path soil k = Turn x rows path soil k
 
 abbrev μ-loop : tie.MeasureT-loop
-μ-loop x rows₀ table2 table3 path₀ s soil₀ k₀ rows path soil k = 24 - k
+μ-loop x rows₀ table2 table3 settled path₀ s soil₀ k₀ rows path soil k = 24 - k
 
 -- ---- before the loop
 all-coefficients-requires : tie.Need-all-coefficients-requires Inv-loop μ-loop
@@ -48,20 +49,26 @@ all-coefficients-requires c κs = search needs
 all-deviations-requires : tie.Need-all-deviations-requires Inv-loop μ-loop
 all-deviations-requires c κs = search needs
 
+all-settled-requires : tie.Need-all-settled-requires Inv-loop μ-loop
+all-settled-requires c κs = search needs
+
 array-copy-out-pga : tie.Need-array-copy-out-pga Inv-loop μ-loop
 array-copy-out-pga c = search needs
 
 array-copy-out-base : tie.Need-array-copy-out-base Inv-loop μ-loop
 array-copy-out-base c = search needs
 
+array-copy-out-known : tie.Need-array-copy-out-known Inv-loop μ-loop
+array-copy-out-known c = search needs
+
 path-of-requires : tie.Need-path-of-requires Inv-loop μ-loop
 path-of-requires c κs =
-    let t = c .before .before .before in
+    let t = c .before .before .before .before .before in
     (of-row PGA _ (lit< tt) (read-2 PGA (t .all-coefficients .ensures)), t .before .pre)
 
 shared-of-requires : tie.Need-shared-of-requires Inv-loop μ-loop
 shared-of-requires c κs =
-    let d = c .before .before .before in
+    let d = c .before .before .before .before .before in
     let t = d .before in (
       read-2 PGA (t .all-coefficients .ensures),
       read-3 PGA (d .all-deviations .ensures),
@@ -71,14 +78,15 @@ shared-of-requires c κs =
 
 soil-of-requires : tie.Need-soil-of-requires Inv-loop μ-loop
 soil-of-requires c κs =
-    let t = c .before .before .before .before .before in
+    let t = c .before .before .before .before .before .before .before in
     (of-row PGA _ (lit< tt) (read-2 PGA (t .all-coefficients .ensures)), t .before .pre, c .shared-of .ensures)
 
 row-from-requires : tie.Need-row-from-requires Inv-loop μ-loop
 row-from-requires c κs =
     let h = c .before in
     let p = h .before in
-    let d = p .before .before .before in
+    let f = p .before .before .before .before in
+    let d = f .before in
     let t = d .before in (
       lit< tt,
       read-2 PGA (t .all-coefficients .ensures),
@@ -87,6 +95,7 @@ row-from-requires c κs =
       h .shared-of .ensures,
       p .path-of .ensures,
       c .soil-of .ensures,
+      read-settled PGA (f .all-settled .ensures),
     )
 
 array-set-from-rows : tie.Need-array-set-from-rows Inv-loop μ-loop
@@ -94,7 +103,7 @@ array-set-from-rows c = search needs
 
 loop-holds : tie.Need-loop-holds Inv-loop μ-loop
 loop-holds c =
-    let x = c .before .before .before .before .before .before .before .before .args .x in
+    let x = c .before .before .before .before .before .before .before .before .before .before .args .x in
     record {
       filled = record { whole = refl; pga = c .row-from .ensures; below = λ j l. absurd (omega (arith, l)) };
       path-is = path-again x _ _ (c .before .before .before .path-of .ensures);
@@ -115,12 +124,18 @@ mul-d c = search needs
 array-copy-out-d : tie.Need-array-copy-out-d Inv-loop μ-loop
 array-copy-out-d c = search needs
 
+mul-f : tie.Need-mul-f Inv-loop μ-loop
+mul-f c = search needs
+
+array-copy-out-f : tie.Need-array-copy-out-f Inv-loop μ-loop
+array-copy-out-f c = search needs
+
 next-path-requires : tie.Need-next-path-requires Inv-loop μ-loop
 next-path-requires c κs =
-    let l = c .before .before .before in
+    let l = c .before .before .before .before in
     let k = l .before .loop .k in
     let h = l .before .before .before .before in
-    let t = h .before .before .before .before .before in (
+    let t = h .before .before .before .before .before .before .before in (
       of-row k _ (l .loop-test .taken) (read-2 k (t .all-coefficients .ensures)),
       t .before .pre,
       l .before .loop .inv .path-is,
@@ -128,10 +143,10 @@ next-path-requires c κs =
 
 next-soil-requires : tie.Need-next-soil-requires Inv-loop μ-loop
 next-soil-requires c κs =
-    let l = c .before .before .before .before in
+    let l = c .before .before .before .before .before in
     let k = l .before .loop .k in
     let h = l .before .before .before .before in
-    let t = h .before .before .before .before .before in (
+    let t = h .before .before .before .before .before .before .before in (
       of-row k _ (l .loop-test .taken) (read-2 k (t .all-coefficients .ensures)),
       t .before .pre,
       h .shared-of .ensures,
@@ -140,10 +155,11 @@ next-soil-requires c κs =
 
 row-from-requires-2 : tie.Need-row-from-requires-2 Inv-loop μ-loop
 row-from-requires-2 c κs =
-    let l = c .before .before .before .before .before in
+    let l = c .before .before .before .before .before .before in
     let k = l .before .loop .k in
     let h = l .before .before .before .before in
-    let d = h .before .before .before .before in
+    let f = h .before .before .before .before .before in
+    let d = f .before in
     let t = d .before in (
       l .loop-test .taken,
       read-2 k (t .all-coefficients .ensures),
@@ -152,13 +168,14 @@ row-from-requires-2 c κs =
       h .shared-of .ensures,
       c .before .next-path .ensures,
       c .next-soil .ensures,
+      read-settled k (f .all-settled .ensures),
     )
 
 mul-rows : tie.Need-mul-rows Inv-loop μ-loop
 mul-rows c = search needs
 
 array-set-from-rows-2 : tie.Need-array-set-from-rows-2 Inv-loop μ-loop
-array-set-from-rows-2 c = c .before .before .before .before .before .before .loop-test .taken
+array-set-from-rows-2 c = c .before .before .before .before .before .before .before .loop-test .taken
 
 add-k : tie.Need-add-k Inv-loop μ-loop
 add-k c = search needs
@@ -170,15 +187,15 @@ loop-again : tie.Need-loop-again Inv-loop μ-loop
 loop-again c =
     let t = c .before in
     let l = t .before in
-    let x = l .before .before .before .before .before .before .before .before .before .args .x in
+    let x = l .before .before .before .before .before .before .before .before .before .before .before .args .x in
     let k = l .loop .k in
     ⊎-elim
     (λ w.
-    same-turn x (k + 1) (w .6) (w .7) (w .8)
+    same-turn x (k + 1) (w .7) (w .8) (w .9)
     (record {
-      filled = set-filled x (l .loop .rows) k _ (t .loop-test .taken) (w .0 .taken) (w .5 .ensures) (l .loop .inv .filled);
-      path-is = path-again x _ _ (w .3 .ensures);
-      soil-is = soil-again x _ _ (w .4 .ensures);
+      filled = set-filled x (l .loop .rows) k _ (t .loop-test .taken) (w .0 .taken) (w .6 .ensures) (l .loop .inv .filled);
+      path-is = path-again x _ _ (w .4 .ensures);
+      soil-is = soil-again x _ _ (w .5 .ensures);
       end = omega (arith, t .loop-test .taken);
     }))
     (λ w.
@@ -204,8 +221,10 @@ rows-of-spec =
     μ-loop
     all-coefficients-requires
     all-deviations-requires
+    all-settled-requires
     array-copy-out-pga
     array-copy-out-base
+    array-copy-out-known
     path-of-requires
     shared-of-requires
     soil-of-requires
@@ -216,6 +235,8 @@ rows-of-spec =
     array-copy-out-c
     mul-d
     array-copy-out-d
+    mul-f
+    array-copy-out-f
     next-path-requires
     next-soil-requires
     row-from-requires-2

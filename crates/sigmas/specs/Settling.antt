@@ -1,0 +1,19 @@
+-- What Table 3 alone fixes of a measure. Definitions only.
+use Prim.Native.Nat.{ℕ, _+_, _*_}
+use Rattle.tables.specs.declared.Deviations.{Deviations}
+use Rattle.model.specs.Fixed.{crossFixed, sigmaOf}
+use Rattle.sigmas.specs.declared.Settled.{Settled}
+
+-- the total and the arbitrary-component sigma of a linear site, where s² is the intra-event variance
+unfoldable pub linearTotal : Deviations → ℕ
+unfolding sigmaOf
+linearTotal d = sigmaOf (d .s * d .s * 1000 + d .t * d .t * 1000)
+
+unfoldable pub linearArbitrary : Deviations → ℕ
+unfolding sigmaOf
+linearArbitrary d = sigmaOf (d .s * d .s * 1000 + d .t * d .t * 1000 + d .sC * d .sC * 1000)
+
+-- 2 rho sigma_lnYB, and these two
+unfoldable pub settledOf : Deviations → Settled
+unfolding crossFixed linearTotal linearArbitrary
+settledOf d = record { cross = crossFixed d; total = linearTotal d; arbitrary = linearArbitrary d }
