@@ -1,6 +1,4 @@
-pub mod LineLaws
 pub mod RowLaws
 pub mod SheetLaws
-pub mod RoundTrip
 pub mod LongestAnswer
 pub mod AnswerExamples

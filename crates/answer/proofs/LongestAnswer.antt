@@ -23,12 +23,12 @@ use Rattle.text.specs.declared.read.Line.{Line}
 use Rattle.text.specs.declared.read.Line.the-variants as L
 use Rattle.text.specs.Grammar.{lineOf}
 use Rattle.text.proofs.RenderLaws.{length-render, length-signed}
+use Rattle.lines.specs.Lines.{okLine, noLine, completionLine}
+use Rattle.lines.proofs.LineLaws.{length-ok, length-no}
 use Rattle.answer.specs.declared.Sheet.{Sheet}
 use Rattle.answer.specs.declared.Sheet.the-variants as S
-use Rattle.answer.specs.Lines.{okLine, noLine, completionLine}
 use Rattle.answer.specs.RowLines.{rowLine, rowLines, spectrumLines}
 use Rattle.answer.specs.Sheets.{sheetOf, replyOf, answerTo, longestAnswer}
-use Rattle.answer.proofs.LineLaws.{length-ok, length-no}
 use Rattle.answer.proofs.RowLaws.{length-row, refused-line, good-lines}
 
 -- ---- the numbers of refusals

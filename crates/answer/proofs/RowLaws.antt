@@ -14,9 +14,9 @@ use Rattle.prediction.specs.declared.Spectrum.{Spectrum}
 use Rattle.text.specs.Grammar.{space}
 use Rattle.text.specs.Render.{render, renderSigned, Written}
 use Rattle.text.proofs.PutLaws.{room-after, then}
-use Rattle.answer.specs.Lines.{lf, noLine}
+use Rattle.lines.specs.Lines.{lf, noLine}
+use Rattle.lines.proofs.LineLaws.{length-ended}
 use Rattle.answer.specs.RowLines.{rowLine, rowLines, spectrumLines}
-use Rattle.answer.proofs.LineLaws.{length-ended}
 
 pub length-row :
     (k : ℕ) (r : Row)

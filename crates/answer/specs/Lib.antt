@@ -1,4 +1,2 @@
-pub mod Lines
 pub mod RowLines
 pub mod Sheets
-pub mod ReadBack

@@ -10,7 +10,7 @@ use Rattle.model.specs.Fixed.{noRow}
 use Rattle.prediction.specs.declared.Spectrum.{Spectrum}
 use Rattle.text.specs.Grammar.{space}
 use Rattle.text.specs.Render.{renderSigned}
-use Rattle.answer.specs.Lines.{lf, ended, noLine}
+use Rattle.lines.specs.Lines.{lf, ended, noLine}
 
 -- the line of measure k
 unfoldable pub rowLine : ℕ → Row → List ℕ

@@ -7,9 +7,9 @@ use Rattle.prediction.specs.Spectra.{spectrumOf}
 use Rattle.text.specs.declared.read.Line.{Line}
 use Rattle.text.specs.declared.read.Line.the-variants as L
 use Rattle.text.specs.Grammar.{lineOf}
+use Rattle.lines.specs.Lines.{noLine, completionLine}
 use Rattle.answer.specs.declared.Sheet.{Sheet}
 use Rattle.answer.specs.declared.Sheet.the-variants as S
-use Rattle.answer.specs.Lines.{noLine, completionLine}
 use Rattle.answer.specs.RowLines.{spectrumLines}
 
 -- the answer to a request

@@ -1,9 +1,9 @@
 // A spectrum as lines of text, one a measure, written into lent bytes: counted first, so that lines
 // too long for them change none.
-use crate::Wrote;
-use crate::write::TOO_LONG;
-use crate::write::put_ended;
-use crate::write::write_no;
+use lines::TOO_LONG;
+use lines::Wrote;
+use lines::put_ended;
+use lines::write_no;
 use model::Row;
 use prediction::Spectrum;
 use text::digits;
@@ -14,7 +14,7 @@ ghost use mathlib.Core.Path.{_≡_};
 ghost use Prim.Native.Nat.{_+_, _≤_};
 ghost use lib.ListN.{length};
 ghost use Rattle.text.specs.Render.{Written};
-ghost use Rattle.answer.specs.Lines.{LineWritten};
+ghost use Rattle.lines.specs.Lines.{LineWritten};
 ghost use Rattle.answer.specs.RowLines.{rowLine, rowLines, spectrumLines};
 
 // How many measures a spectrum has.

@@ -19,13 +19,13 @@ use Rattle.prediction.specs.Spectra.{spectrumOf}
 use Rattle.text.specs.declared.read.Line.{Line}
 use Rattle.text.specs.declared.read.Line.the-variants as L
 use Rattle.text.specs.Grammar.{lineOf}
-use Rattle.answer.specs.declared.Wrote.{Wrote}
+use Rattle.lines.specs.declared.Wrote.{Wrote}
+use Rattle.lines.specs.Lines.{completionLine, wrote, LineWritten}
+use Rattle.lines.proofs.LineLaws.{length-ok, length-no}
 use Rattle.answer.specs.declared.Sheet.{Sheet}
 use Rattle.answer.specs.declared.Sheet.the-variants as S
-use Rattle.answer.specs.Lines.{completionLine, wrote, LineWritten}
 use Rattle.answer.specs.RowLines.{rowLine, rowLines, spectrumLines}
 use Rattle.answer.specs.Sheets.{sheetOf, replyOf, answerTo, longestAnswer}
-use Rattle.answer.proofs.LineLaws.{length-ok, length-no}
 use Rattle.answer.proofs.RowLaws.{length-row, refused-line, good-lines}
 use Rattle.answer.proofs.LongestAnswer.{answer-short}
 use Rattle.export.specs.Given.{countOf, fitting, LineGiven}

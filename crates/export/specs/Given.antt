@@ -14,9 +14,9 @@ use Rattle.prediction.specs.declared.measure.OneMeasure.{OneMeasure}
 use Rattle.prediction.specs.declared.measure.OneMeasure.the-variants as M
 use Rattle.prediction.specs.Floats.{floatSpectrumOf}
 use Rattle.prediction.specs.Measures.{measureOf}
-use Rattle.answer.specs.declared.Wrote.{Wrote}
-use Rattle.answer.specs.declared.Wrote.the-variants as W
-use Rattle.answer.specs.Lines.{after}
+use Rattle.lines.specs.declared.Wrote.{Wrote}
+use Rattle.lines.specs.declared.Wrote.the-variants as W
+use Rattle.lines.specs.Lines.{after}
 
 -- ---- a line
 -- the number that stands for a line writer's answer: no answer line is empty, so that 0 is free for its refusal

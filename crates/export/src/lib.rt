@@ -4,8 +4,8 @@ mod rows;
 
 use answer::MALFORMED;
 use answer::Sheet;
-use answer::Wrote;
 use answer::answer_line;
+use lines::Wrote;
 use prediction::OneMeasure;
 use prediction::predict_floats;
 use prediction::predict_measure;

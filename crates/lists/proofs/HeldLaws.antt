@@ -11,8 +11,8 @@ use lib.ListN.{length, take, replicate, length-replicate}
 use lib.Seq.{length-take-le}
 use Rattle.text.specs.Grammar.{longest}
 use Rattle.text.proofs.FieldLaws.{too-long}
+use Rattle.lines.specs.Lines.{noLine}
 use Rattle.answer.specs.declared.Sheet.{Sheet}
-use Rattle.answer.specs.Lines.{noLine}
 use Rattle.answer.specs.Sheets.{answerTo}
 use Rattle.answer.proofs.SheetLaws.{malformed-line}
 use Rattle.lists.specs.declared.Reader.{Reader}

@@ -10,11 +10,11 @@ use lib.Seq.{drop-cons, drop-drop, length-take-le}
 use Rattle.text.specs.Grammar.{longest}
 use Rattle.text.specs.Render.{put}
 use Rattle.text.proofs.PutLaws.{take-put, drop-put, length-put}
-use Rattle.answer.specs.declared.Wrote.the-variants as W
+use Rattle.lines.specs.declared.Wrote.the-variants as W
+use Rattle.lines.specs.Lines.{lf, LineWritten}
+use Rattle.lines.proofs.LineLaws.{to-fits, refused-full, after-fits, after-full}
 use Rattle.answer.specs.declared.Sheet.{Sheet}
-use Rattle.answer.specs.Lines.{lf, LineWritten}
 use Rattle.answer.specs.Sheets.{answerTo}
-use Rattle.answer.proofs.LineLaws.{to-fits, refused-full, after-fits, after-full}
 use Rattle.lists.specs.declared.Reader.{Reader}
 use Rattle.lists.specs.declared.Taken.{Taken}
 use Rattle.lists.specs.Parts.{lineIn, fresh, grown, Stand, readFrom, PartTaken}

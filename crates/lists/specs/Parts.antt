@@ -7,8 +7,8 @@ use lib.Dec.{eqb, ltb}
 use lib.ListN.{length, take, set, replicate}
 use Rattle.text.specs.Grammar.{longest}
 use Rattle.text.specs.Render.{put}
+use Rattle.lines.specs.Lines.{lf}
 use Rattle.answer.specs.declared.Sheet.{Sheet}
-use Rattle.answer.specs.Lines.{lf}
 use Rattle.answer.specs.Sheets.{answerTo}
 use Rattle.lists.specs.declared.Reader.{Reader}
 use Rattle.lists.specs.declared.Taken.{Taken}

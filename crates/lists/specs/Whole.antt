@@ -4,8 +4,8 @@ use mathlib.Core.Bool.{cond}
 use mathlib.Core.List.{List, [], _∷_, _++_}
 use lib.Dec.{eqb}
 use lib.ListN.{length}
+use Rattle.lines.specs.Lines.{lf, noLine}
 use Rattle.answer.specs.declared.Sheet.{Sheet}
-use Rattle.answer.specs.Lines.{lf, noLine}
 use Rattle.answer.specs.Sheets.{answerTo}
 
 -- the answer to a last line without an LF: none if it has no byte

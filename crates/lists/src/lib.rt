@@ -2,13 +2,13 @@
 // bytes reach, and the unfinished line held from part to part.
 use answer::MALFORMED;
 use answer::Sheet;
-use answer::Wrote;
 use answer::answer_line;
-use answer::write_no;
+use lines::Wrote;
+use lines::write_no;
 ghost use mathlib.Core.Path.{_≡_};
 ghost use lib.ListN.{length};
 ghost use Rattle.text.specs.Grammar.{longest};
-ghost use Rattle.answer.specs.Lines.{LineWritten};
+ghost use Rattle.lines.specs.Lines.{LineWritten};
 ghost use Rattle.answer.specs.Sheets.{answerTo};
 ghost use Rattle.lists.specs.Parts.{heldLine, newReader, closing, PartTaken};
 

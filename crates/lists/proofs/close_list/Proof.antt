@@ -2,7 +2,7 @@
 use borrow.Author.Needs.{needs}
 use native.Mathlib.Omega.{arith}
 use denote.Ref.{now}
-use Rattle.answer.proofs.LineLaws.{nothing-written}
+use Rattle.lines.proofs.LineLaws.{nothing-written}
 use Rattle.lists.proofs.HeldLaws.{closing-none, closing-some}
 use Rattle.lists.proofs.close_list.Statement.{statement}
 use Rattle.lists.proofs.close_list.Tie as tie

@@ -7,9 +7,9 @@ use borrow.Author.Needs.{needs}
 use denote.Ref.{now}
 use lib.ListN.{length, drop, length-drop}
 use Rattle.text.proofs.FigureLaws.{rest}
-use Rattle.answer.specs.Lines.{LineWritten}
+use Rattle.lines.specs.Lines.{LineWritten}
+use Rattle.lines.proofs.LineLaws.{to-fits}
 use Rattle.answer.specs.Sheets.{answerTo}
-use Rattle.answer.proofs.LineLaws.{to-fits}
 use Rattle.lists.specs.Parts.{heldLine}
 use Rattle.lists.proofs.PartLaws.{Going, begins, ends, byte-held, byte-over, line-answered, line-refused}
 use Rattle.lists.proofs.take_part.Statement.{statement}

@@ -11,7 +11,7 @@ use Rattle.model.specs.declared.Row.{Row}
 use Rattle.text.specs.Grammar.{space}
 use Rattle.text.specs.Render.{renderSigned, Written}
 use Rattle.text.proofs.PutLaws.{shorter, room-after, then}
-use Rattle.answer.specs.Lines.{lf, ended}
+use Rattle.lines.specs.Lines.{lf, ended}
 use Rattle.answer.specs.RowLines.{rowLine}
 use Rattle.answer.proofs.rows.put_row.Statement.{statement}
 use Rattle.answer.proofs.rows.put_row.Tie as tie

@@ -5,8 +5,8 @@ use mathlib.Core.Path.{_≡_, refl}
 use native.Mathlib.Omega.{arith}
 use lib.ListN.{length}
 use Rattle.text.specs.Render.{Written}
+use Rattle.lines.proofs.LineLaws.{put-nothing}
 use Rattle.answer.specs.RowLines.{rowLines}
-use Rattle.answer.proofs.LineLaws.{put-nothing}
 use Rattle.answer.proofs.RowLaws.{row-room, row-then}
 use Rattle.answer.proofs.rows.put_rows.Statement.{statement}
 use Rattle.answer.proofs.rows.put_rows.Tie as tie

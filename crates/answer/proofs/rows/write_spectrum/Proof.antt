@@ -2,8 +2,8 @@
 use borrow.Author.Needs.{needs}
 use native.Mathlib.Omega.{arith}
 use denote.Ref.{now}
+use Rattle.lines.proofs.LineLaws.{refuses, writes}
 use Rattle.answer.specs.RowLines.{rowLines}
-use Rattle.answer.proofs.LineLaws.{refuses, writes}
 use Rattle.answer.proofs.RowLaws.{refused-line, good-lines}
 use Rattle.answer.proofs.rows.write_spectrum.Statement.{statement}
 use Rattle.answer.proofs.rows.write_spectrum.Tie as tie
