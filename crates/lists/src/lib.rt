@@ -5,15 +5,13 @@ use answer::Sheet;
 use answer::answer_line;
 use lines::Wrote;
 use lines::write_no;
+use text::LONGEST;
 ghost use mathlib.Core.Path.{_≡_};
 ghost use lib.ListN.{length};
 ghost use Rattle.text.specs.Grammar.{longest};
 ghost use Rattle.lines.specs.Lines.{LineWritten};
 ghost use Rattle.answer.specs.Sheets.{answerTo};
 ghost use Rattle.lists.specs.Parts.{heldLine, newReader, closing, PartTaken};
-
-// The most bytes that a line has before its LF.
-const LONGEST: usize = 100;
 
 // An unfinished line: its first bytes, and how many it has. A count above LONGEST says that the line
 // is too long; its bytes are of no use then.

@@ -4,6 +4,7 @@ mod figures;
 mod read;
 mod write;
 
+pub use read::LONGEST;
 pub use read::Line;
 pub use read::read_line;
 pub use write::digits;
