@@ -66,7 +66,7 @@ fn row_from(
 {
     let l = ln_median(i, c, x, s, path, soil);
     let alpha = alpha_of(c, x, soil);
-    let intra = intra_variance(d, f.cross, alpha, s.sigma);
+    let intra = intra_variance(d, f.cross, alpha);
     let total = intra + d.t * d.t * 1_000;
     let arbitrary = total + d.sC * d.sC * 1_000;
     let inter = d.t * 1_000;
@@ -89,11 +89,10 @@ pub fn row_at(i: usize, x: Scenario) -> Row
     let table3 = all_deviations();
     let settled = all_settled();
     let rock = table2[PGA];
-    let base = table3[PGA];
     let c = table2[i];
     let d = table3[i];
     let f = settled[i];
-    let s = shared_of(rock, base, x, path_of(rock, x));
+    let s = shared_of(rock, x, path_of(rock, x));
     row_from(i, c, d, f, x, s, path_of(c, x), soil_of(c, x, s))
 }
 
@@ -141,7 +140,7 @@ pub fn rows_of(x: Scenario) -> [Row; 24]
     let base = table3[PGA];
     let known = settled[PGA];
     let mut path = path_of(pga, x);
-    let s = shared_of(pga, base, x, path);
+    let s = shared_of(pga, x, path);
     let mut soil = soil_of(pga, x, s);
     rows[PGA] = row_from(PGA, pga, base, known, x, s, path, soil);
     let mut k = 0usize;

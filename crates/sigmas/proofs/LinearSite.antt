@@ -1,6 +1,6 @@
 -- The steps of the intra-event variance, and a linear site: with alpha 0 nothing is added to s², and its root is s. Assumes nothing.
 use Prim.Native.Nat.{ℕ, _+_, _*_, _/_, _≤_, _<_}
-use mathlib.Core.Path.{_≡_, sym, ap, _∙_}
+use mathlib.Core.Path.{_≡_, refl, sym, ap, _∙_}
 use native.Mathlib.Omega.{arith}
 use native.Mathlib.Nat.{le-refl, mul-zero, zero-mul, mul-mul-mul-comm, add-mul, mul-add, mul-one, one-mul}
 use lib.IntN.{ℤ, pos, natAbs, _+ℤ_}
@@ -10,7 +10,7 @@ use Rattle.exact.proofs.Root.{root-unique}
 use Rattle.reckon.specs.Fixed.{E9, mulDiv}
 use Rattle.reckon.proofs.SignedLaws.{mulDiv-zero}
 use Rattle.tables.specs.declared.Deviations.{Deviations}
-use Rattle.tables.specs.Tables.{deviationsAt}
+use Rattle.tables.specs.Tables.{table3, deviationsAt}
 use Rattle.model.specs.Equations.{PGA}
 use Rattle.model.specs.Fixed.{atBaseFixed, crossFixed, intraVarianceFixed, sigmaOf}
 
@@ -18,6 +18,11 @@ use Rattle.model.specs.Fixed.{atBaseFixed, crossFixed, intraVarianceFixed, sigm
 -- sigma_lnAB
 abbrev pub rockSigma : ℕ
 rockSigma = atBaseFixed (deviationsAt PGA .s)
+
+-- the constant of the code
+pub rock-is : rockSigma ≡ 372134384
+unfolding atBaseFixed deviationsAt table3
+rock-is = refl
 
 -- alpha sigma_lnAB
 abbrev pub yOf : ℤ → ℤ

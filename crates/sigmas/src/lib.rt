@@ -4,29 +4,23 @@ mod fixed;
 
 use reckon::long_root;
 use reckon::mul_div;
-use reckon::whole_root;
 use tables::Deviations;
 ghost use mathlib.Core.Path.{_≡_};
 ghost use mathlib.Core.List.{map};
 ghost use Prim.Native.Nat.{_≤_};
 ghost use lib.IntN.{ℤ, pos, natAbs};
 ghost use Rattle.exact.specs.Near.{up};
-ghost use Rattle.tables.specs.Tables.{table3, deviationsAt};
-ghost use Rattle.model.specs.Equations.{PGA};
-ghost use Rattle.model.specs.Fixed.{atBaseFixed, crossFixed, intraVarianceFixed, sigmaOf};
+ghost use Rattle.tables.specs.Tables.{table3};
+ghost use Rattle.model.specs.Fixed.{crossFixed, intraVarianceFixed, sigmaOf};
 ghost use Rattle.model.specs.OfTables.{OfTable3};
 ghost use Rattle.sigmas.specs.Settling.{settledOf};
 
 // One, in units of 10^-9.
 const E9: i64 = 1_000_000_000;
 
-// Sigma at the base of the site profile.
-pub fn at_base(s: u64) -> u64
-    requires { ⌜ (300 ≤ s) × (s ≤ 700) ⌝ }
-    ensures { λ r. ⌜ r ≡ atBaseFixed s ⌝ }
-{
-    whole_root((s * s - 300 * 300) * 1_000_000_000_000)
-}
+// sigma_lnAB: PGA's at the base of the site profile, which Table 3 alone fixes; held to it by a computed
+// test.
+const ROCK: i64 = 372_134_384;
 
 // What Table 3 alone fixes of a measure, so that no request spends a root on it: 2 rho sigma_lnYB, in units
 // of 10^-9, and on a linear site the total sigma (16) and that of an arbitrary component (18).
@@ -44,17 +38,16 @@ pub fn all_settled() -> [Settled; 24]
     fixed::ROWS
 }
 
-// The intra-event variance (15); `rock` is sigma_lnAB. On a linear site alpha is 0 and nothing is
-// added to s².
-pub fn intra_variance(d: Deviations, cross: u64, alpha: i64, rock: u64) -> u64
-    requires { ⌜ OfTable3 d × (cross ≡ crossFixed d) × (natAbs alpha ≤ 2671000367) × (rock ≡ atBaseFixed (deviationsAt PGA .s)) ⌝ }
+// The intra-event variance (15). On a linear site alpha is 0 and nothing is added to s².
+pub fn intra_variance(d: Deviations, cross: u64, alpha: i64) -> u64
+    requires { ⌜ OfTable3 d × (cross ≡ crossFixed d) × (natAbs alpha ≤ 2671000367) ⌝ }
     ensures { λ r. ⌜ r ≡ up (intraVarianceFixed d alpha) ⌝ }
 {
     let linear = d.s * d.s * 1_000;
     if alpha == 0 {
         return linear;
     }
-    let y = mul_div(rock as i64, alpha, E9);
+    let y = mul_div(ROCK, alpha, E9);
     let more = linear as i64 + mul_div(y, y + cross as i64, E9);
     if more < 0 { 0 } else { more as u64 }
 }

@@ -4,16 +4,15 @@ use mathlib.Core.Bool.{true, false}
 use lib.Dec.{ltb}
 use lib.IntN.{pos, _-ℤ_}
 use Rattle.reckon.specs.Fixed.{lnFixed, lnQuotient}
-use Rattle.tables.specs.Tables.{deviationsAt}
 use Rattle.model.specs.declared.Scenario.{Scenario}
 use Rattle.site.specs.declared.shared.Shared.{Shared}
 use Rattle.site.specs.declared.Soil.{Soil}
-use Rattle.model.specs.Equations.{PGA, least}
-use Rattle.model.specs.Fixed.{wallFixed, deepFixed, rockPGAFixed, siteCFixed, shareFixed, curveFixed, atBaseFixed}
+use Rattle.model.specs.Equations.{least}
+use Rattle.model.specs.Fixed.{wallFixed, deepFixed, rockPGAFixed, siteCFixed, shareFixed, curveFixed}
 
 -- once for a request
 unfoldable pub sharedOf : Scenario → Shared
-unfolding wallFixed deepFixed rockPGAFixed lnFixed atBaseFixed deviationsAt
+unfolding wallFixed deepFixed rockPGAFixed lnFixed
 sharedOf x =
     record {
       wall = wallFixed x;
@@ -21,7 +20,6 @@ sharedOf x =
       rock = rockPGAFixed x;
       log = lnFixed (rockPGAFixed x + siteCFixed);
       share = shareFixed (rockPGAFixed x) siteCFixed;
-      sigma = atBaseFixed (deviationsAt PGA .s);
     }
 
 -- once for a k1

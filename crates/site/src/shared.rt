@@ -6,14 +6,12 @@ use factors::wall_of;
 use model::Scenario;
 use reckon::exp_fixed;
 use reckon::ln_fixed;
-use sigmas::at_base;
 use tables::Coefficients;
-use tables::Deviations;
 use terms::Path;
 use terms::ln_sum;
 ghost use mathlib.Core.Path.{_≡_};
 ghost use Prim.Native.Nat.{_≤_};
-ghost use Rattle.tables.specs.Tables.{coefficientsAt, deviationsAt};
+ghost use Rattle.tables.specs.Tables.{coefficientsAt};
 ghost use Rattle.model.specs.Equations.{PGA};
 ghost use Rattle.model.specs.Accuracy.{InRange};
 ghost use Rattle.model.specs.Fixed.{wallFixed, deepFixed, rockPGAFixed, shareFixed};
@@ -28,14 +26,13 @@ const SITE_C: u64 = 1_880_000_000;
 // The measure PGA.
 pub const PGA: usize = 21;
 
-// A1100 is `rock`; with it ln(A1100 + c), A1100/(A1100 + c), and PGA's sigma at the base.
+// A1100 is `rock`; with it ln(A1100 + c) and A1100/(A1100 + c).
 pub struct Shared {
     pub wall: u64,
     pub deep: u64,
     pub rock: u64,
     pub log: i64,
     pub share: u64,
-    pub sigma: u64,
 }
 
 // a/(a + b).
@@ -54,9 +51,9 @@ fn rock_pga(c: Coefficients, x: Scenario, wall: u64, deep: u64, path: Path) -> u
     exp_fixed(ln_sum(c, x, wall, deep, path, f_site_linear(c, 1_100))) / 10
 }
 
-// All of them, from PGA's rows of both tables and its path.
-pub fn shared_of(c: Coefficients, d: Deviations, x: Scenario, path: Path) -> Shared
-    requires { ⌜ (c ≡ coefficientsAt PGA) × (d ≡ deviationsAt PGA) × InRange x × (path ≡ pathOf (c .c6) x) ⌝ }
+// All of them, from PGA's row of Table 2 and its path.
+pub fn shared_of(c: Coefficients, x: Scenario, path: Path) -> Shared
+    requires { ⌜ (c ≡ coefficientsAt PGA) × InRange x × (path ≡ pathOf (c .c6) x) ⌝ }
     ensures { λ r. ⌜ r ≡ sharedOf x ⌝ }
 {
     let wall = wall_of(x);
@@ -68,6 +65,5 @@ pub fn shared_of(c: Coefficients, d: Deviations, x: Scenario, path: Path) -> Sha
         rock: rock,
         log: ln_fixed(rock + SITE_C),
         share: share_of(rock, SITE_C),
-        sigma: at_base(d.s),
     }
 }

@@ -19,9 +19,6 @@ all-settled-requires c κs = search needs
 array-copy-out-rock : tie.Need-array-copy-out-rock
 array-copy-out-rock c = search needs
 
-array-copy-out-base : tie.Need-array-copy-out-base
-array-copy-out-base c = search needs
-
 mul-c : tie.Need-mul-c
 mul-c c = search needs
 
@@ -42,29 +39,27 @@ array-copy-out-f c = search needs
 
 path-of-requires : tie.Need-path-of-requires
 path-of-requires c κs =
-    let t = c .before .before .before .before .before .before .before in
+    let t = c .before .before .before .before .before .before in
     (of-row PGA _ (lit< tt) (read-2 PGA (t .all-coefficients .ensures)), t .before .pre .1)
 
 shared-of-requires : tie.Need-shared-of-requires
 shared-of-requires c κs =
-    let d = c .before .before .before .before .before .before .before in
-    let t = d .before in (
+    let t = c .before .before .before .before .before .before .before in (
       read-2 PGA (t .all-coefficients .ensures),
-      read-3 PGA (d .all-deviations .ensures),
       t .before .pre .1,
       c .path-of .ensures,
     )
 
 path-of-requires-2 : tie.Need-path-of-requires-2
 path-of-requires-2 c κs =
-    let t = c .before .before .before .before .before .before .before .before .before in
+    let t = c .before .before .before .before .before .before .before .before in
     let s = t .before in
     (of-row (s .args .i) _ (s .pre .0) (read-2 (s .args .i) (t .all-coefficients .ensures)), s .pre .1)
 
 soil-of-requires : tie.Need-soil-of-requires
 soil-of-requires c κs =
     let h = c .before in
-    let t = h .before .before .before .before .before .before .before .before .before in
+    let t = h .before .before .before .before .before .before .before .before in
     let s = t .before in
     (of-row (s .args .i) _ (s .pre .0) (read-2 (s .args .i) (t .all-coefficients .ensures)), s .pre .1, h .shared-of .ensures)
 
@@ -72,7 +67,7 @@ row-from-requires : tie.Need-row-from-requires
 row-from-requires c κs =
     let p = c .before in
     let h = p .before in
-    let k = h .before .before .before .before .before .before .before in
+    let k = h .before .before .before .before .before .before in
     let d = k .before in
     let t = d .before in
     let s = t .before in (
@@ -97,7 +92,6 @@ row-at-spec =
     all-deviations-requires
     all-settled-requires
     array-copy-out-rock
-    array-copy-out-base
     mul-c
     array-copy-out-c
     mul-d

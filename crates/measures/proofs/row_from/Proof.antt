@@ -69,10 +69,6 @@ steps i x h r =
 at : (c : tie.Start) → Steps (c .args .i) (c .args .x)
 at c = steps (c .args .i) (c .args .x) (c .pre .0) (c .pre .3)
 
-sigma-is : (c : tie.Start) → c .args .s .sigma ≡ atBaseFixed (deviationsAt PGA .s)
-unfolding sharedOf
-sigma-is c = ap (λ (s : Shared). s .sigma) (c .pre .4)
-
 ln-median-requires : tie.Need-ln-median-requires
 ln-median-requires c κs = search needs
 
@@ -107,7 +103,6 @@ intra-variance-requires c κs =
       record { i = s .args .i; below = s .pre .0; is = s .pre .2 },
       cross-is s,
       f .alpha-small,
-      sigma-is s,
     )
 
 -- alpha, at the place of the variance

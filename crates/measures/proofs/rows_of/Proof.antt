@@ -68,10 +68,8 @@ path-of-requires c κs =
 
 shared-of-requires : tie.Need-shared-of-requires Inv-loop μ-loop
 shared-of-requires c κs =
-    let d = c .before .before .before .before .before in
-    let t = d .before in (
+    let t = c .before .before .before .before .before .before in (
       read-2 PGA (t .all-coefficients .ensures),
-      read-3 PGA (d .all-deviations .ensures),
       t .before .pre,
       c .path-of .ensures,
     )

@@ -15,14 +15,11 @@ use Rattle.exact.proofs.Signed.{sfits-abs, add-abs, abs-parts, by-sign, lt-read
 use Rattle.reckon.specs.Fixed.{E9, mulDiv}
 use Rattle.reckon.proofs.SignedLaws.{mulDiv-abs, mulDiv-zero}
 use Rattle.tables.specs.declared.Deviations.{Deviations}
-use Rattle.tables.specs.Tables.{deviationsAt}
-use Rattle.model.specs.Equations.{PGA}
-use Rattle.model.specs.Fixed.{atBaseFixed, crossFixed, intraVarianceFixed}
+use Rattle.model.specs.Fixed.{crossFixed, intraVarianceFixed}
 use Rattle.model.proofs.Fair.{Spread}
-use Rattle.sigmas.proofs.LinearSite.{rockSigma, yOf, squareOf, addedOf, flat}
+use Rattle.sigmas.proofs.LinearSite.{rock-is, yOf, squareOf, addedOf, flat}
 use Rattle.model.proofs.OfTables.{spread-of}
 use Rattle.model.proofs.Sizes.{y-fits}
-use Rattle.model.proofs.Variance.{rock-sigma-le}
 use Rattle.sigmas.proofs.intra_variance.Statement.{statement}
 use Rattle.sigmas.proofs.intra_variance.Tie as tie
 
@@ -71,24 +68,16 @@ returns c =
     rw zero (flat (s .args .d))
 
 -- ---- and not
-rock-le : (c : tie.Start) → c .args .rock ≤ 372134384
-rock-le c = omega (arith, c .pre .3, rock-sigma-le)
-
-cast-mul-div : tie.Need-cast-mul-div
-cast-mul-div c = record { sfits = omega (arith, rock-le (c .before .before)) }
-
 mul-div-requires : tie.Need-mul-div-requires
 mul-div-requires c κs =
     let s = c .before .before in
-    rw (toZ-pos w64 (cast-mul-div c .sfits), toZ-ofZ (s .fits .alpha))
-    (omega (arith, mul-le-mul (rock-le s) (s .pre .2)), lit≤ tt)
+    rw (toZ-ofZ (s .fits .alpha)) (omega (arith, s .pre .2), lit≤ tt)
 
 -- the code's y
 y-is : (c : tie.After-mul-div) → c .mul-div .result ≡ yOf (c .before .before .before .args .alpha)
 y-is c =
     let s = c .before .before .before in
-    c .mul-div .ensures
-    ∙ rw (toZ-pos w64 (cast-mul-div (c .before) .sfits), toZ-ofZ (s .fits .alpha), s .pre .3)
+    c .mul-div .ensures ∙ rw (toZ-ofZ (s .fits .alpha), rock-is)
 
 cast-more : tie.Need-cast-more
 cast-more c = record { sfits = omega (arith, here (c .before .before .before) .square-low) }
@@ -96,15 +85,15 @@ cast-more c = record { sfits = omega (arith, here (c .before .before .before) .s
 cross-le : (c : tie.Start) → c .args .cross ≤ 800000000
 cross-le c = omega (arith, c .pre .1, here c .cross-low)
 
-cast-mul-div-2 : tie.Need-cast-mul-div-2
-cast-mul-div-2 c = record { sfits = omega (arith, cross-le (c .before .before .before)) }
+cast-mul-div : tie.Need-cast-mul-div
+cast-mul-div c = record { sfits = omega (arith, cross-le (c .before .before .before)) }
 
 -- y and its sum, as the machine reads them
 y-read : (c : tie.After-mul-div) → toZ w64 (ofZ w64 (c .mul-div .result)) ≡ yOf (c .before .before .before .args .alpha)
 y-read c = rw (y-is c) (toZ-ofZ (here (c .before .before .before) .y-in))
 
 cross-read : (c : tie.After-mul-div) → toZ w64 (c .before .before .before .args .cross) ≡ pos (crossFixed (c .before .before .before .args .d))
-cross-read c = toZ-pos w64 (cast-mul-div-2 c .sfits) ∙ ap pos (c .before .before .before .pre .1)
+cross-read c = toZ-pos w64 (cast-mul-div c .sfits) ∙ ap pos (c .before .before .before .pre .1)
 
 add-mul-div : tie.Need-add-mul-div
 add-mul-div c = rw (y-read c, cross-read c) (here (c .before .before .before) .sum-in)
@@ -172,10 +161,9 @@ intra-variance-spec =
     mul-linear
     mul-linear-2
     returns
-    cast-mul-div
     mul-div-requires
     cast-more
-    cast-mul-div-2
+    cast-mul-div
     add-mul-div
     mul-div-requires-2
     add-more

@@ -3,18 +3,15 @@ use borrow.Author.Needs.{needs}
 use Prim.Native.Nat.{ℕ, _+_, _≤_, _<_}
 use mathlib.Core.Path.{_≡_, _∙_}
 use native.Mathlib.Omega.{arith}
-use lib.Dec.{lit≤, lit<}
+use lib.Dec.{lit≤}
 use lib.IntN.{ℤ, natAbs}
 use mir.Syntax.{w64}
 use mir.Val.{Fits, SFits}
 use mir.Facts.{toZ-ofZ}
 use Rattle.exact.proofs.Signed.{sfits-abs}
 use Rattle.reckon.specs.Fixed.{lnFixed}
-use Rattle.tables.specs.Tables.{deviationsAt}
-use Rattle.model.specs.Equations.{PGA}
 use Rattle.model.specs.Fixed.{rockPGAFixed, siteCFixed}
 use Rattle.site.specs.Sharing.{sharedOf}
-use Rattle.model.proofs.Fair.{spread-at}
 use Rattle.model.proofs.Rock.{rock-top-fixed}
 use Rattle.model.proofs.Sizes.{log-size}
 use Rattle.site.proofs.shared.shared_of.Statement.{statement}
@@ -23,7 +20,7 @@ use Rattle.site.proofs.shared.shared_of.Tie as tie
 rock-high : (c : tie.After-rock-pga) → c .rock-pga .result ≤ 1490000000
 rock-high c =
     let s = c .before .before .before in
-    rw (c .rock-pga .ensures) (rock-top-fixed (s .args .x) (s .pre .2))
+    rw (c .rock-pga .ensures) (rock-top-fixed (s .args .x) (s .pre .1))
 
 wall-of-requires : tie.Need-wall-of-requires
 wall-of-requires c κs = search needs
@@ -43,16 +40,10 @@ ln-fixed-requires c κs = (omega arith, omega (arith, rock-high c))
 share-of-requires : tie.Need-share-of-requires
 share-of-requires c κs = (rock-high (c .before), lit≤ tt, lit≤ tt)
 
-at-base-requires : tie.Need-at-base-requires
-at-base-requires c κs =
-    let d = spread-at PGA (lit< tt) in
-    rw (c .before .before .before .before .before .pre .1) (d .s-low, d .s-high)
-
 returns : tie.Need-returns
 unfolding sharedOf
 returns c =
-    let h = c .before in
-    let l = h .before in
+    let l = c .before in
     let r = l .before in
     let d = r .before in
     let w = d .before in
@@ -61,15 +52,13 @@ returns c =
     sfits-abs _
     (omega (
       arith,
-      log-size (rockPGAFixed (s .args .x) + siteCFixed) (omega arith) (omega (arith, rock-top-fixed (s .args .x) (s .pre .2))),
+      log-size (rockPGAFixed (s .args .x) + siteCFixed) (omega arith) (omega (arith, rock-top-fixed (s .args .x) (s .pre .1))),
     )) in
     simp (
       w .wall-of .ensures,
       d .deep-of .ensures,
       l .ln-fixed .ensures,
-      h .share-of .ensures,
-      c .at-base .ensures,
-      s .pre .1,
+      c .share-of .ensures,
       r .rock-pga .ensures,
       toZ-ofZ f,
     )
@@ -84,5 +73,4 @@ shared-of-spec =
     add-ln-fixed
     ln-fixed-requires
     share-of-requires
-    at-base-requires
     returns)
