@@ -1,7 +1,6 @@
 // The exponential.
 ghost use mathlib.Core.Path.{_≡_};
 ghost use Prim.Native.Nat.{_*_, _≤_, _<_};
-ghost use lib.IntN.{ℤ};
 ghost use Rattle.exact.specs.Near.{up, dn};
 ghost use Rattle.reckon.specs.Fixed.{E10, LN2, expUnit, expFixed};
 

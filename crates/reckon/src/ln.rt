@@ -1,7 +1,6 @@
 // The natural logarithm of a fixed-point number and of a quotient of two whole numbers.
 ghost use mathlib.Core.Path.{_≡_};
 ghost use Prim.Native.Nat.{_*_, _≤_, _<_};
-ghost use lib.IntN.{ℤ};
 ghost use Rattle.reckon.specs.Fixed.{E9, lnRatio, lnFixed, lnQuotient};
 
 // One, in units of 10^-9 and of 10^-10.

@@ -2,7 +2,7 @@
 // division whose rounding is the same on both sides of zero.
 ghost use mathlib.Core.Path.{_≡_};
 ghost use Prim.Native.Nat.{_*_, _^_, _≤_, _<_};
-ghost use lib.IntN.{ℤ, natAbs};
+ghost use lib.IntN.{natAbs};
 ghost use Rattle.reckon.specs.Fixed.{mulDiv, nearest};
 
 // a b / d, rounded toward zero.

@@ -1,7 +1,7 @@
 // Sine and cosine of whole degrees, from the series; no list is stored.
 ghost use mathlib.Core.Path.{_≡_};
 ghost use Prim.Native.Nat.{_+_, _*_, _≤_};
-ghost use lib.IntN.{ℤ, pos};
+ghost use lib.IntN.{pos};
 ghost use Rattle.exact.specs.Series.{alternating};
 ghost use Rattle.reckon.specs.Fixed.{E9, sinAcute, sinFixed, cosFixed};
 

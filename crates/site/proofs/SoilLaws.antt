@@ -3,9 +3,9 @@ use Prim.Native.Nat.{ℕ, _+_, _*_, _/_, _≤_, _<_}
 use mathlib.Core.Path.{_≡_, refl, sym, subst}
 use mathlib.Core.Bool.{Bool, true, false}
 use native.Mathlib.Omega.{arith}
-use native.Mathlib.Nat.{le-trans, le-add-right, mul-le-mul-right, div-le-of-le-mul, mul-comm}
+use native.Mathlib.Nat.{le-add-right, mul-le-mul-right, div-le-of-le-mul}
 use lib.Dec.{ltb, lit≤}
-use lib.IntN.{ℤ, pos, natAbs, _-ℤ_}
+use lib.IntN.{pos, natAbs, _-ℤ_}
 use borrow.Author.Tests.{lt-ltb, le-ltb, ltb-true, ltb-false}
 use Rattle.exact.proofs.Signed.{by-sign, abs-parts, sub-is}
 use Rattle.reckon.specs.Fixed.{E9, lnFixed, lnQuotient}

@@ -15,7 +15,7 @@ pub use shared::shared_of;
 use tables::Coefficients;
 ghost use mathlib.Core.Path.{_≡_};
 ghost use Prim.Native.Nat.{_≤_, _<_};
-ghost use lib.IntN.{ℤ, natAbs};
+ghost use lib.IntN.{natAbs};
 ghost use Rattle.model.specs.Equations.{least, linear};
 ghost use Rattle.model.specs.Accuracy.{InRange};
 ghost use Rattle.model.specs.Fixed.{curveOf, fSiteFixed, alphaFixed, rockPGAFixed};

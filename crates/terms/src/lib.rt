@@ -7,10 +7,10 @@ use request::Style;
 use tables::Coefficients;
 ghost use mathlib.Core.Path.{_≡_};
 ghost use Prim.Native.Nat.{_-_, _≤_};
-ghost use lib.IntN.{ℤ, pos, natAbs};
+ghost use lib.IntN.{pos, natAbs};
 ghost use Rattle.model.specs.Equations.{fFltZ};
 ghost use Rattle.model.specs.Accuracy.{InRange};
-ghost use Rattle.model.specs.Fixed.{lnDistance, fMagFixed, fDisFixed, fFltFixed, wallFixed, fHngFixed, deepFixed, fSedFixed, lnSum};
+ghost use Rattle.model.specs.Fixed.{fMagFixed, fDisFixed, fFltFixed, wallFixed, fHngFixed, deepFixed, fSedFixed, lnSum};
 ghost use Rattle.model.specs.OfTables.{OfTable2};
 ghost use Rattle.terms.specs.Paths.{pathOf};
 

@@ -1,15 +1,13 @@
 -- The sum of six terms at the site's own Vs30 and A1100. Assumes nothing.
-use borrow.Author.Needs.{needs}
-use Prim.Native.Nat.{ℕ, _≤_, _<_}
+use Prim.Native.Nat.{_≤_, _<_}
 use mathlib.Core.Path.{_≡_, ap, _∙_}
 use native.Mathlib.Omega.{arith}
-use lib.IntN.{ℤ, natAbs}
+use lib.IntN.{natAbs}
 use mir.Syntax.{w64}
 use mir.Val.{SFits}
 use mir.Facts.{toZ-ofZ}
 use Rattle.exact.proofs.Signed.{sfits, sfits-abs}
 use Rattle.tables.specs.declared.Coefficients.{Coefficients}
-use Rattle.tables.specs.Tables.{coefficientsAt}
 use Rattle.site.specs.declared.shared.Shared.{Shared}
 use Rattle.model.specs.Fixed.{wallFixed, deepFixed, fSiteFixed, rockPGAFixed, lnSum, lnMedianAtFixed, lnMedianFixed}
 use Rattle.model.specs.OfTables.{OfTable2}

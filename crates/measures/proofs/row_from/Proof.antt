@@ -7,23 +7,19 @@ use native.Mathlib.Nat.{le-trans, mul-le-mul}
 use lib.Dec.{lit≤}
 use lib.IntN.{ℤ, pos, natAbs}
 use mir.Syntax.{w64}
-use mir.Val.{Fits, SFits}
+use mir.Val.{SFits}
 use mir.Facts.{toZ-ofZ}
 use Rattle.exact.specs.Near.{up, dn}
 use Rattle.exact.proofs.Signed.{sfits, sfits-abs}
-use Rattle.reckon.specs.Fixed.{nearest, expFixed}
+use Rattle.reckon.specs.Fixed.{nearest}
 use Rattle.tables.specs.declared.Coefficients.{Coefficients}
 use Rattle.tables.specs.declared.Deviations.{Deviations}
 use Rattle.tables.specs.Tables.{coefficientsAt, deviationsAt}
 use Rattle.model.specs.declared.Scenario.{Scenario}
-use Rattle.site.specs.declared.shared.Shared.{Shared}
 use Rattle.model.specs.Accuracy.{InRange}
-use Rattle.model.specs.Equations.{PGA}
-use Rattle.model.specs.Fixed.{alphaFixed, atBaseFixed, crossFixed, intraVarianceFixed, lnMedianFixed, rockPGAFixed, rowFixed, sigmaOf, varianceFixed}
-use Rattle.model.specs.OfTables.{OfTable3}
+use Rattle.model.specs.Fixed.{alphaFixed, crossFixed, intraVarianceFixed, lnMedianFixed, rockPGAFixed, rowFixed, sigmaOf, varianceFixed}
 use Rattle.sigmas.specs.declared.Settled.{Settled}
 use Rattle.sigmas.specs.Settling.{linearArbitrary, linearTotal, settledOf}
-use Rattle.site.specs.Sharing.{sharedOf}
 use Rattle.model.proofs.Fair.{fair-at, spread-at}
 use Rattle.model.proofs.Median.{rock-is-near, lnMedian-size}
 use Rattle.sigmas.proofs.LinearSite.{flat, squareOf, whole-sigma}

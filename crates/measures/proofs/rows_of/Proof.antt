@@ -4,18 +4,16 @@ use borrow.Author.Needs.{needs}
 use Prim.Native.Nat.{ℕ, _+_, _-_, _≤_, _<_}
 use mathlib.Core.Path.{_≡_, refl, sym, subst, _∙_}
 use mathlib.Core.List.{List}
-use mathlib.Core.Logic.{⊎-elim, inl, inr}
+use mathlib.Core.Logic.{⊎-elim}
 use native.Mathlib.Omega.{arith}
 use lib.Dec.{lit<}
-use lib.ListN.{length, getD}
 use Rattle.model.specs.declared.Scenario.{Scenario}
 use Rattle.model.specs.declared.Row.{Row}
 use Rattle.site.specs.declared.Soil.{Soil}
 use Rattle.terms.specs.declared.Path.{Path}
 use Rattle.model.specs.Equations.{PGA}
-use Rattle.model.specs.Fixed.{rowFixed}
 use Rattle.terms.specs.Paths.{pathOf}
-use Rattle.site.specs.Sharing.{soilOf, sharedOf}
+use Rattle.site.specs.Sharing.{soilOf}
 use Rattle.measures.proofs.FilledRows.{Filled, set-filled, pass-filled, path-again, soil-again}
 use Rattle.model.proofs.OfTables.{of-row, read-2, read-3}
 use Rattle.sigmas.proofs.SettledRows.{read-settled}

@@ -1,10 +1,9 @@
 -- Each step of the code is the definition's, and its size keeps it within 64 bits; with alpha 0 what is added to s² is 0. Assumes
 -- nothing.
-use borrow.Author.Needs.{needs}
-use Prim.Native.Nat.{ℕ, _+_, _*_, _^_, _≤_, _<_}
+use Prim.Native.Nat.{_+_, _*_, _^_, _≤_, _<_}
 use mathlib.Core.Path.{_≡_, sym, ap, _∙_}
 use native.Mathlib.Omega.{arith}
-use native.Mathlib.Nat.{mul-le-mul, mul-zero, zero-mul}
+use native.Mathlib.Nat.{mul-le-mul}
 use lib.Dec.{lit≤}
 use lib.IntN.{ℤ, pos, natAbs, _+ℤ_}
 use mir.Syntax.{w64}
@@ -12,8 +11,8 @@ use mir.Val.{SFits, toZ, ofZ}
 use mir.Facts.{toZ-pos, toZ-ofZ}
 use Rattle.exact.specs.Near.{up, dn}
 use Rattle.exact.proofs.Signed.{sfits-abs, add-abs, abs-parts, by-sign, lt-read, lit-fits, lt-parts, not-below, as-unsigned}
-use Rattle.reckon.specs.Fixed.{E9, mulDiv}
-use Rattle.reckon.proofs.SignedLaws.{mulDiv-abs, mulDiv-zero}
+use Rattle.reckon.specs.Fixed.{E9}
+use Rattle.reckon.proofs.SignedLaws.{mulDiv-abs}
 use Rattle.tables.specs.declared.Deviations.{Deviations}
 use Rattle.model.specs.Fixed.{crossFixed, intraVarianceFixed}
 use Rattle.model.proofs.Fair.{Spread}

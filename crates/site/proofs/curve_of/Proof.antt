@@ -1,18 +1,14 @@
 -- ln(V/k1) is small, so its share lies in the exponential's range; what the curve is at most bounds the product. Assumes nothing.
-use borrow.Author.Needs.{needs}
 use Prim.Native.Nat.{ℕ, _*_, _/_, _≤_, _<_}
 use mathlib.Core.Path.{_≡_}
 use native.Mathlib.Omega.{arith}
-use native.Mathlib.Nat.{le-trans}
 use lib.Dec.{lit≤}
 use lib.IntN.{ℤ, pos, natAbs}
 use mir.Syntax.{w64}
 use mir.Val.{Fits, SFits}
 use mir.Facts.{toZ-ofZ}
-use Rattle.exact.specs.Near.{up, dn}
 use Rattle.exact.proofs.Signed.{sfits-abs, abs-parts}
 use Rattle.reckon.specs.Fixed.{mulDiv, expFixed}
-use Rattle.model.specs.Fixed.{curveOf}
 use Rattle.model.proofs.Sizes.{share-size}
 use Rattle.site.proofs.curve_of.Statement.{statement}
 use Rattle.site.proofs.curve_of.Tie as tie

@@ -11,18 +11,18 @@ use mir.Syntax.{w64}
 use mir.Val.{SFits}
 use mir.Facts.{toZ-ofZ}
 use Rattle.exact.proofs.Signed.{sfits-abs, abs-parts, add-abs}
-use Rattle.reckon.specs.Fixed.{mulDiv, lnFixed, lnQuotient}
+use Rattle.reckon.specs.Fixed.{mulDiv}
 use Rattle.tables.specs.declared.Coefficients.{Coefficients}
 use Rattle.model.specs.declared.Scenario.{Scenario}
 use Rattle.site.specs.declared.Soil.{Soil}
 use Rattle.model.specs.Accuracy.{InRange}
-use Rattle.model.specs.Equations.{linear, least}
-use Rattle.model.specs.Fixed.{curveFixed, siteCFixed, fSiteFixed, rockPGAFixed}
+use Rattle.model.specs.Equations.{linear}
+use Rattle.model.specs.Fixed.{fSiteFixed, rockPGAFixed}
 use Rattle.model.specs.OfTables.{OfTable2}
 use Rattle.site.specs.Sharing.{soilOf}
 use Rattle.model.proofs.OfTables.{fair-of}
 use Rattle.model.proofs.Sizes.{share-size}
-use Rattle.site.proofs.SoilLaws.{softSoil, hardSoil, soft-soil, hard-soil, soil-k1, soil-small}
+use Rattle.site.proofs.SoilLaws.{soft-soil, hard-soil, soil-k1, soil-small}
 use Rattle.site.proofs.f_site.Statement.{statement}
 use Rattle.site.proofs.f_site.Tie as tie
 

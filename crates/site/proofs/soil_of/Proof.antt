@@ -1,24 +1,22 @@
 -- Below k1 and from k1 up the soil is that of `SoilLaws`, each number of it small. Assumes nothing.
 use borrow.Author.Needs.{needs}
 use Prim.Native.Nat.{ℕ, _+_, _*_, _≤_, _<_}
-use mathlib.Core.Path.{_≡_, sym, ap, _∙_}
+use mathlib.Core.Path.{_≡_, ap, _∙_}
 use native.Mathlib.Omega.{arith}
-use native.Mathlib.Nat.{le-trans}
-use lib.Dec.{lit≤}
-use lib.IntN.{ℤ, pos, natAbs, _-ℤ_}
+use lib.IntN.{pos, natAbs, _-ℤ_}
 use mir.Syntax.{w64}
-use mir.Val.{Fits, SFits, toZ}
+use mir.Val.{SFits, toZ}
 use mir.Facts.{toZ-ofZ, toZ-pos}
 use Rattle.exact.proofs.Signed.{sfits-abs}
-use Rattle.reckon.specs.Fixed.{E9, lnFixed, lnQuotient}
+use Rattle.reckon.specs.Fixed.{lnFixed, lnQuotient}
 use Rattle.tables.specs.declared.Coefficients.{Coefficients}
 use Rattle.model.specs.declared.Scenario.{Scenario}
 use Rattle.site.specs.declared.shared.Shared.{Shared}
 use Rattle.model.specs.Accuracy.{InRange}
 use Rattle.model.specs.Equations.{least}
-use Rattle.model.specs.Fixed.{curveOf, curveFixed, rockPGAFixed, shareFixed, siteCFixed}
+use Rattle.model.specs.Fixed.{curveFixed, rockPGAFixed, shareFixed, siteCFixed}
 use Rattle.model.specs.OfTables.{OfTable2}
-use Rattle.site.specs.Sharing.{sharedOf, soilOf}
+use Rattle.site.specs.Sharing.{sharedOf}
 use Rattle.model.proofs.Curve.{Paired, quotient-size, curve-low-fixed, curve-high-fixed}
 use Rattle.model.proofs.Median.{rock-is-near}
 use Rattle.model.proofs.OfTables.{fair-of}

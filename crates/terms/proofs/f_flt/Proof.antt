@@ -3,13 +3,12 @@ use borrow.Author.Needs.{needs}
 use Prim.Native.Nat.{ℕ, _≤_, _<_}
 use mathlib.Core.Path.{_≡_}
 use native.Mathlib.Omega.{arith}
-use native.Mathlib.Nat.{le-refl}
-use lib.IntN.{ℤ, pos, natAbs, _*ℤ_}
+use lib.IntN.{ℤ, pos, _*ℤ_}
 use mir.Syntax.{w64}
 use mir.Val.{SFits, toZ}
 use mir.Facts.{toZ-ofZ, toZ-pos}
 use Rattle.exact.proofs.Signed.{sfits-abs, mul-abs-le}
-use Rattle.request.specs.declared.Style.the-variants.{StrikeSlip, Reverse, Normal}
+use Rattle.request.specs.declared.Style.the-variants.{Reverse, Normal}
 use Rattle.tables.specs.declared.Coefficients.{Coefficients}
 use Rattle.model.specs.Equations.{fFltZ}
 use Rattle.model.specs.Fixed.{fFltFixed}

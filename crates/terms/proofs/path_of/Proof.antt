@@ -1,15 +1,11 @@
 -- RRUP² + c6² lies from 16 to below 65 000 square kilometres. Assumes nothing.
-use borrow.Author.Needs.{needs}
 use Prim.Native.Nat.{ℕ, _+_, _*_, _≤_, _<_}
 use mathlib.Core.Path.{_≡_, ap, _∙_}
 use native.Mathlib.Omega.{arith}
 use native.Mathlib.Nat.{mul-le-mul, mul-comm}
-use lib.IntN.{ℤ}
-use mir.Syntax.{w64}
-use mir.Val.{Fits, SFits}
 use mir.Facts.{toZ-ofZ}
 use Rattle.exact.proofs.Signed.{sfits-abs}
-use Rattle.reckon.specs.Fixed.{E9, lnFixed}
+use Rattle.reckon.specs.Fixed.{lnFixed}
 use Rattle.tables.specs.declared.Coefficients.{Coefficients}
 use Rattle.model.specs.declared.Scenario.{Scenario}
 use Rattle.terms.specs.declared.Path.{Path}

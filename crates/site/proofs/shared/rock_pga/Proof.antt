@@ -1,23 +1,20 @@
 -- The ln median of PGA at 1100 m/s lies in the exponential's range. Assumes nothing.
-use borrow.Author.Needs.{needs}
-use Prim.Native.Nat.{ℕ, _/_, _≤_, _<_}
-use mathlib.Core.Path.{_≡_, sym, ap, _∙_}
+use Prim.Native.Nat.{_/_, _≤_, _<_}
+use mathlib.Core.Path.{_≡_, ap, _∙_}
 use native.Mathlib.Omega.{arith}
 use native.Mathlib.Nat.{le-trans}
-use lib.Dec.{lit≤, lit<}
-use lib.IntN.{ℤ, natAbs}
+use lib.Dec.{lit≤}
+use lib.IntN.{natAbs}
 use mir.Syntax.{w64}
 use mir.Val.{SFits}
 use mir.Facts.{toZ-ofZ}
 use Rattle.exact.proofs.Signed.{sfits, sfits-abs}
-use Rattle.reckon.specs.Fixed.{expFixed}
 use Rattle.tables.specs.declared.Coefficients.{Coefficients}
 use Rattle.tables.specs.Tables.{coefficientsAt}
 use Rattle.model.specs.declared.Scenario.{Scenario}
 use Rattle.model.specs.Accuracy.{InRange}
 use Rattle.model.specs.Equations.{PGA}
 use Rattle.model.specs.Fixed.{fSiteFixed, lnSum, lnMedianAtFixed, rockPGAFixed}
-use Rattle.model.specs.OfTables.{OfTable2}
 use Rattle.model.proofs.OfTables.{fair-of, pga-row}
 use Rattle.model.proofs.Rock.{rock-ln-size}
 use Rattle.model.proofs.Sizes.{linear-site-size}
