@@ -4,7 +4,7 @@ use mathlib.Core.Path.{_≡_}
 use native.Mathlib.Omega.{arith}
 use native.Mathlib.Nat.{mul-le-mul-right, add-mul}
 use lib.IntN.{ℤ, pos, natAbs, _-ℤ_, _*ℤ_}
-use Rattle.exact.specs.Near.{up, dn, NearZ, Within}
+use Rattle.exact.specs.Near.{NearZ, Within}
 use Rattle.exact.proofs.Signed.{by-sign, abs-parts, sub-is, scaled-up, scaled-dn}
 
 -- ---- the relations say what their names say

@@ -5,7 +5,7 @@ use model::Row;
 use request::Request;
 ghost use mathlib.Core.Path.{_≡_};
 ghost use Prim.Native.Nat.{ℕ, _<_, _≤_};
-ghost use lib.IntN.{ℤ, pos, natAbs};
+ghost use lib.IntN.{pos, natAbs};
 ghost use lib.ListN.{length, getD};
 ghost use Rattle.model.specs.Fixed.{noRow};
 ghost use Rattle.prediction.specs.Spectra.{Small};

@@ -6,7 +6,6 @@ mod section;
 
 ghost use mathlib.Core.Path.{_≡_};
 ghost use Prim.Native.Nat.{_+_, _*_, _≤_, _<_};
-ghost use lib.IntN.{ℤ};
 ghost use Rattle.rupture.specs.Geometry.{ceilRoot, onHangingWall};
 ghost use Rattle.rupture.specs.Fixed.{InRange, hangingWallFixed, larger, ruptureDistance};
 pub use plan::Place;
