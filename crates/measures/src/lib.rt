@@ -50,7 +50,7 @@ fn at_least_one(y: u64) -> u64
     if 1 < y { y } else { 1 }
 }
 
-// The row of a measure, from what is shared.
+// The row of a measure, from what is shared; `f` is what Table 3 alone fixes of it.
 fn row_from(
     i: usize,
     c: Coefficients,

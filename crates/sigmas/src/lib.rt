@@ -53,7 +53,7 @@ pub fn intra_variance(d: Deviations, cross: u64, alpha: i64) -> u64
 }
 
 // The root of a variance, to the nearest millionth.
-pub fn sigma_of(v: u64) -> u64
+fn sigma_of(v: u64) -> u64
     requires { ⌜ v ≤ 2400000000 ⌝ }
     ensures { λ r. ⌜ r ≡ sigmaOf v ⌝ }
 {
