@@ -5,6 +5,7 @@ mod rows;
 use answer::MALFORMED;
 use answer::Sheet;
 use answer::answer_line;
+use lines::TOO_LONG;
 use lines::Wrote;
 use prediction::OneMeasure;
 use prediction::predict_floats;
@@ -19,9 +20,6 @@ ghost use Rattle.answer.specs.declared.Sheet.the-variants as S;
 ghost use Rattle.answer.specs.Sheets.{answerTo};
 ghost use Rattle.export.specs.Given.{countOf, LineGiven, MeasureGiven, SpectrumGiven};
 ghost use Rattle.export.specs.Given.{measureAnswer, spectrumAnswer};
-
-// The refusal of an answer that is longer than what was lent for it.
-const TOO_LONG: u32 = 16;
 
 // How many bytes were written: none on a refusal.
 fn count_of(w: Wrote) -> usize
