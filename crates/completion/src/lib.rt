@@ -16,7 +16,7 @@ use site::complete_site;
 use source::SourceAnswer;
 use source::complete_source;
 ghost use mathlib.Core.Path.{_≡_};
-ghost use Rattle.completion.specs.Answers.{completionOf};
+ghost use Rattle.completion.specs.Answers.{completionOf, numberOf};
 
 // What is known of a request once it is completed: magnitude in hundredths, angles in degrees, Vs30
 // in m/s, lengths and depths in metres.
@@ -37,6 +37,16 @@ pub struct Completed {
 pub enum Completion {
     Done(Completed),
     Refused(u32),
+}
+
+// The refusal's number, 0 for none.
+pub fn number_of(c: Completion) -> u32
+    ensures { λ n. ⌜ n ≡ numberOf c ⌝ }
+{
+    match c {
+        Completion::Done(_) => 0,
+        Completion::Refused(n) => n,
+    }
 }
 
 // Completes any request. It asks for nothing: each of the thirteen fields may hold any i64.

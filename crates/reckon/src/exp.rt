@@ -1,13 +1,10 @@
 // The exponential.
+use crate::units::E10;
+use crate::units::LN2;
 ghost use mathlib.Core.Path.{_≡_};
 ghost use Prim.Native.Nat.{_*_, _≤_, _<_};
 ghost use Rattle.exact.specs.Near.{up, dn};
 ghost use Rattle.reckon.specs.Fixed.{E10, LN2, expUnit, expFixed};
-
-// One and ln 2, in units of 10^-10.
-const E10: u64 = 10_000_000_000;
-
-const LN2: u64 = 6_931_471_805;
 
 // e^r, r from 0 to ln 2, both in units of 10^-10: twelve terms. The third is made from a quarter of
 // r, since r r would not fit.

@@ -7,6 +7,7 @@ mod ln;
 mod root;
 mod signed;
 mod sine;
+mod units;
 
 pub use exp::exp_fixed;
 pub use ln::ln_fixed;
@@ -17,3 +18,5 @@ pub use signed::mul_div;
 pub use signed::round_div;
 pub use sine::cos_deg;
 pub use sine::sin_deg;
+pub use units::E9;
+pub use units::E10;

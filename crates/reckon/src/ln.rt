@@ -1,16 +1,12 @@
 // The natural logarithm of a fixed-point number and of a quotient of two whole numbers.
+use crate::units::E9;
+use crate::units::E10;
+use crate::units::LN2;
 ghost use mathlib.Core.Path.{_≡_};
 ghost use Prim.Native.Nat.{_*_, _≤_, _<_};
 ghost use Rattle.reckon.specs.Fixed.{E9, lnRatio, lnFixed, lnQuotient};
 
-// One, in units of 10^-9 and of 10^-10.
-const E9: u64 = 1_000_000_000;
-
-const E10: u64 = 10_000_000_000;
-
-// ln 2 in units of 10^-10, and ln 8 in units of 10^-9.
-const LN2: u64 = 6_931_471_805;
-
+// ln 8 in units of 10^-9.
 const LN8: i64 = 2_079_441_541;
 
 // ln (p/q), p/q from 1 to 2, in units of 10^-10: ten terms of 2 (z + z^3/3 + ..), z = (p-q)/(p+q).

@@ -1,11 +1,10 @@
 // Sine and cosine of whole degrees, from the series; no list is stored.
+use crate::units::E9;
 ghost use mathlib.Core.Path.{_≡_};
 ghost use Prim.Native.Nat.{_+_, _*_, _≤_};
 ghost use lib.IntN.{pos};
 ghost use Rattle.exact.specs.Series.{alternating};
 ghost use Rattle.reckon.specs.Fixed.{E9, sinAcute, sinFixed, cosFixed};
-
-const E9: u64 = 1_000_000_000;
 
 // Pi in units of 10^-16, and 180 degrees in units that bring a product with it to 10^-9.
 const PI16: u64 = 31_415_926_535_897_932;

@@ -8,6 +8,14 @@ use lib.ListN.{getD}
 use Rattle.tables.specs.declared.Coefficients.{Coefficients}
 use Rattle.tables.specs.declared.Deviations.{Deviations}
 
+-- how many measures there are: the 21 periods, PGA, PGV, PGD
+abbrev pub measures : ℕ
+measures = 24
+
+-- PGA's number among them
+abbrev pub PGA : ℕ
+PGA = 21
+
 -- a number printed with a minus sign
 abbrev pub neg : ℕ → ℤ
 neg zero = pos 0

@@ -6,6 +6,12 @@ ghost use Rattle.tables.specs.Tables.{table2, table3};
 mod table2;
 mod table3;
 
+// How many measures there are: the 21 periods, PGA, PGV, PGD.
+pub const MEASURES: usize = 24;
+
+// PGA's number among them.
+pub const PGA: usize = 21;
+
 // A row of Table 2, each field under the paper's name.
 pub struct Coefficients {
     pub c0: i64,

@@ -1,0 +1,104 @@
+-- The refusals by name, the order in which they are tested, and what it means that one of them is the first. Document 01's table, from
+-- the top; no other file of the specs has their numbers. Definitions only.
+use Prim.Native.Nat.{ℕ}
+use mathlib.Core.Bool.{Bool, true, false, cond}
+use mathlib.Core.List.{List, [], _∷_}
+
+-- ---- by name
+-- the line cannot be read
+abbrev pub malformed : ℕ
+malformed = 14
+
+abbrev pub rake : ℕ
+rake = 1
+
+-- by the style of fault
+abbrev pub magnitude : ℕ
+magnitude = 2
+
+abbrev pub vs30 : ℕ
+vs30 = 3
+
+abbrev pub dip : ℕ
+dip = 4
+
+abbrev pub width : ℕ
+width = 5
+
+abbrev pub hypocentre : ℕ
+hypocentre = 6
+
+-- ZTOR, given or completed
+abbrev pub top : ℕ
+top = 7
+
+abbrev pub rjb : ℕ
+rjb = 8
+
+abbrev pub azimuth : ℕ
+azimuth = 9
+
+-- the site is above the rupture, and RRUP is blank
+abbrev pub above : ℕ
+above = 10
+
+-- given or completed
+abbrev pub rrup : ℕ
+rrup = 11
+
+-- a given RRUP that is too short
+abbrev pub tooShort : ℕ
+tooShort = 12
+
+-- Z1.0, Z1.5 or Z2.5, the last given or completed
+abbrev pub basin : ℕ
+basin = 13
+
+-- there is no such measure
+abbrev pub noMeasure : ℕ
+noMeasure = 15
+
+-- the answer is longer than what is lent for it
+abbrev pub tooLong : ℕ
+tooLong = 16
+
+-- ---- the order in which they are tested
+abbrev pub order : List ℕ
+order =
+    malformed
+    ∷ rake
+    ∷ magnitude
+    ∷ vs30
+    ∷ dip
+    ∷ width
+    ∷ hypocentre
+    ∷ top
+    ∷ rjb
+    ∷ azimuth
+    ∷ above
+    ∷ rrup
+    ∷ tooShort
+    ∷ basin
+    ∷ noMeasure
+    ∷ tooLong
+    ∷ []
+
+-- ---- the first that applies
+-- a row is a refusal's number, and whether its condition holds
+abbrev pub Rows : Type 0
+Rows = List (ℕ × Bool)
+
+-- the number of the first row whose condition holds, 0 where none does
+unfoldable pub first : Rows → ℕ
+first [] = 0
+first (row ∷ rows) = cond (row .1) (row .0) (first rows)
+
+-- n is the number of a row whose condition holds, and that of no row before it does
+pub data Fires (n : ℕ) : Rows → Type 0 where
+  here : {rest : Rows} → Fires n ((n, true) ∷ rest)
+  later : {m : ℕ} {rest : Rows} → Fires n rest → Fires n ((m, false) ∷ rest)
+
+-- no row's condition holds
+pub data Silent : Rows → Type 0 where
+  empty : Silent []
+  quiet : {m : ℕ} {rest : Rows} → Silent rest → Silent ((m, false) ∷ rest)
