@@ -1,5 +1,4 @@
 pub mod Fitting
-pub mod Heron
 pub mod Shifts
 pub mod LnTerms
 pub mod LnTwos

@@ -12,7 +12,6 @@ mod units;
 pub use exp::exp_fixed;
 pub use ln::ln_fixed;
 pub use ln::ln_quotient;
-pub use root::long_root;
 pub use root::whole_root;
 pub use signed::mul_div;
 pub use signed::round_div;

@@ -2,8 +2,8 @@
 // specs/Fixed.
 mod fixed;
 
-use reckon::long_root;
 use reckon::mul_div;
+use reckon::whole_root;
 use tables::Deviations;
 ghost use mathlib.Core.Path.{_≡_};
 ghost use mathlib.Core.List.{map};
@@ -57,7 +57,7 @@ fn sigma_of(v: u64) -> u64
     requires { ⌜ v ≤ 2400000000 ⌝ }
     ensures { λ r. ⌜ r ≡ sigmaOf v ⌝ }
 {
-    (long_root(4_000 * v) + 1) / 2
+    (whole_root(4_000 * v) + 1) / 2
 }
 
 // The root of a variance. On a linear site it is known, and none is taken.
