@@ -5,7 +5,7 @@ use mathlib.Core.Path.{_≡_}
 use Rattle.request.specs.declared.Field.the-variants.{Blank}
 use Rattle.request.specs.declared.Request.{Request}
 use Rattle.request.specs.Fields.{sizeOf, valueOf}
-use Rattle.rupture.specs.Fixed.{ruptureDistance}
+use Rattle.geometry.specs.Fixed.{ruptureDistance}
 use Rattle.completion.specs.Figures.{figureOf, style, dip, width, zhypOf, zhyp, ztor, rrup, basinOf, z25}
 
 module _ (r s : Request) where

@@ -9,14 +9,14 @@ use Rattle.request.specs.declared.Field.{Field}
 use Rattle.request.specs.declared.Field.the-variants.{Blank}
 use Rattle.request.specs.declared.Request.{Request}
 use Rattle.request.specs.Fields.{sizeOf, valueOf}
-use Rattle.estimate.specs.Rules.{widthE, topE, basinE}
-use Rattle.estimate.proofs.Figures as F
-use Rattle.estimate.proofs.WidthNear.{widthFixed-near}
-use Rattle.estimate.proofs.TopNear.{topFixed-near}
-use Rattle.estimate.proofs.BasinNear.{basinFixed-near}
-use Rattle.rupture.specs.Geometry.{ruptureDistanceE}
-use Rattle.rupture.specs.Fixed.{InRange}
-use Rattle.rupture.proofs.Reported.{reported-near, reported-above}
+use Rattle.rules.specs.Rules.{widthE, topE, basinE}
+use Rattle.rules.proofs.Figures as F
+use Rattle.rules.proofs.WidthNear.{widthFixed-near}
+use Rattle.rules.proofs.TopNear.{topFixed-near}
+use Rattle.rules.proofs.BasinNear.{basinFixed-near}
+use Rattle.geometry.specs.Geometry.{ruptureDistanceE}
+use Rattle.geometry.specs.Fixed.{RuptureInRange}
+use Rattle.geometry.proofs.Reported.{reported-near, reported-above}
 use Rattle.completion.specs.Figures.{figureOf, style, dip, width, zhyp, ztor, rrup, basinOf, z25}
 use Rattle.completion.specs.Refusals.{first, sourceRows, pathGiven, pathRows, refusal}
 use Rattle.completion.proofs.Rows.{first-both}
@@ -29,7 +29,7 @@ unfolding figureOf
 estimated-is f e h = rw h
 
 -- the ranges under which the rupture distance is proved
-pub in-range : (r : Request) → refusal r ≡ 0 → InRange (dip r .value) (width r .value) (ztor r .value) (sizeOf (r .rjb))
+pub in-range : (r : Request) → refusal r ≡ 0 → RuptureInRange (dip r .value) (width r .value) (ztor r .value) (sizeOf (r .rjb))
 unfolding pathRows
 in-range r e =
     let t = stages r e in

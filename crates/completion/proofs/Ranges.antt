@@ -17,9 +17,9 @@ use Rattle.request.specs.declared.Style.the-variants.{StrikeSlip, Reverse, Norm
 use Rattle.request.specs.declared.Request.{Request}
 use Rattle.request.specs.Fields.{within, allowed, sizeOf, valueOf}
 use Rattle.request.specs.Styles.{topMagnitude}
-use Rattle.estimate.proofs.Figures as F
-use Rattle.estimate.proofs.Ranges.{dipOf-range, hypocentre-top}
-use Rattle.estimate.proofs.WidthNear.{widthFixed-near}
+use Rattle.rules.proofs.Figures as F
+use Rattle.rules.proofs.Ranges.{dipOf-range, hypocentre-top}
+use Rattle.rules.proofs.WidthNear.{widthFixed-near}
 use Rattle.completion.specs.Figures.{figureOf, given, style, dip, width, zhypOf, zhyp, ztor, rrup, z25}
 use Rattle.completion.specs.Refusals.{first, sourceGiven, sourceRows, pathGiven, pathRows, siteGiven, aboveRupture, tooShort}
 use Rattle.completion.proofs.Rows.{clear, first-both}

@@ -9,9 +9,9 @@ use Rattle.request.specs.declared.Style.{Style}
 use Rattle.request.specs.declared.Request.{Request}
 use Rattle.request.specs.Fields.{sizeOf, valueOf}
 use Rattle.request.specs.Styles.{styleOf}
-use Rattle.estimate.specs.Rules.{dipOf, hypocentre, basinFromZ15, basinFromZ10}
-use Rattle.estimate.specs.Fixed.{widthFixed, topFixed, basinFixed}
-use Rattle.rupture.specs.Fixed.{ruptureDistance}
+use Rattle.rules.specs.Rules.{dipOf, hypocentre, basinFromZ15, basinFromZ10}
+use Rattle.rules.specs.Fixed.{widthFixed, topFixed, basinFixed}
+use Rattle.geometry.specs.Fixed.{ruptureDistance}
 use Rattle.completion.specs.declared.figure.Figure.{Figure}
 
 -- the figure that was given

@@ -1,6 +1,6 @@
 // The published estimates of what a request leaves blank, the rupture distance apart: source
-// document 000's rules for the source and the site. Each function equals a definition of specs/, and
-// proofs/ says how near that lies to the rule. Lengths and depths are whole metres, rounded down.
+// document 000's rules for the source and the site. Each function equals a definition of crate rules,
+// whose proofs/ say how near that lies to the rule. Lengths and depths are whole metres, rounded down.
 mod site;
 mod source;
 

@@ -1,14 +1,12 @@
 // The site: Z2.5 from Z1.5, from Z1.0 or from Vs30.
+use reckon::E10;
 use reckon::exp_fixed;
 use reckon::ln_quotient;
 use reckon::mul_div;
 ghost use mathlib.Core.Path.{_≡_};
 ghost use Prim.Native.Nat.{_≤_};
-ghost use Rattle.estimate.specs.Rules.{basinFromZ15, extrapolated, basinFromZ10};
-ghost use Rattle.estimate.specs.Fixed.{lnZ10Fixed, basinFixed};
-
-// One, in units of 10^-10.
-const E10: u64 = 10_000_000_000;
+ghost use Rattle.rules.specs.Rules.{basinFromZ15, extrapolated, basinFromZ10};
+ghost use Rattle.rules.specs.Fixed.{lnZ10Fixed, basinFixed};
 
 // Z2.5 in m from Z1.5 (equation 25).
 pub fn basin_from_z15(z: u64) -> u64

@@ -1,16 +1,13 @@
 // The source: dip, W, ZHYP and ZTOR. A magnitude stands in hundredths.
+use reckon::E9;
+use reckon::E10;
 use reckon::exp_fixed;
 use reckon::sin_deg;
 use request::Style;
 ghost use mathlib.Core.Path.{_≡_};
 ghost use Prim.Native.Nat.{_≤_};
-ghost use Rattle.estimate.specs.Rules.{dipOf, hypocentre};
-ghost use Rattle.estimate.specs.Fixed.{logWidthFixed, widthFixed, topFixed};
-
-// One, in units of 10^-9 and of 10^-10.
-const E9: u64 = 1_000_000_000;
-
-const E10: u64 = 10_000_000_000;
+ghost use Rattle.rules.specs.Rules.{dipOf, hypocentre};
+ghost use Rattle.rules.specs.Fixed.{logWidthFixed, widthFixed, topFixed};
 
 // ln 10 in units of 10^-9.
 const LN10: u64 = 2_302_585_092;

@@ -16,10 +16,11 @@ rel-wide N ρ ρ' T T' a b h k r =
     }
 
 -- ---- chains: the parts add up, and one more
-chain :
-    (N ρ σ T U a b c : ℕ) → 0 < N → ρ * σ ≤ N → ρ ≤ N → a * N ≤ b * (N + ρ) + T → b * N ≤ c * (N + σ) + U
-    → a * N ≤ c * (N + (ρ + σ + 1)) + (T + 2 * U)
-chain N ρ σ T U a b c hN small hρ h k = le-of-mul-le-mul-right whole hN
+-- the first slack stays as it is, and W makes up for U ρ/N
+pub chain :
+    (N ρ σ T U W a b c : ℕ) → 0 < N → ρ * σ ≤ N → U * ρ ≤ W * N → a * N ≤ b * (N + ρ) + T → b * N ≤ c * (N + σ) + U
+    → a * N ≤ c * (N + (ρ + σ + 1)) + (T + U + W)
+chain N ρ σ T U W a b c hN small hW h k = le-of-mul-le-mul-right whole hN
   where
     one : b * (N + ρ) * N ≤ c * (N + σ) * (N + ρ) + U * (N + ρ)
     one = omega (arith, mul-right-comm b (N + ρ) N, mul-le-mul-right (N + ρ) k, add-mul (c * (N + σ)) U (N + ρ))
@@ -41,20 +42,19 @@ chain N ρ σ T U a b c hN small hρ h k = le-of-mul-le-mul-right whole hN
     three : c * (N + σ) * (N + ρ) ≤ c * (N + (ρ + σ + 1)) * N
     three = omega (arith, mul-assoc c (N + σ) (N + ρ), mul-le-mul-left c two, mul-assoc c (N + (ρ + σ + 1)) N)
 
-    four : U * (N + ρ) ≤ 2 * U * N
-    four = omega (arith, mul-add U N ρ, mul-le-mul-left U hρ, mul-assoc 2 U N)
-
-    whole : a * N * N ≤ (c * (N + (ρ + σ + 1)) + (T + 2 * U)) * N
+    whole : a * N * N ≤ (c * (N + (ρ + σ + 1)) + (T + U + W)) * N
     whole =
         omega (
           arith,
           one,
           three,
-          four,
+          hW,
+          mul-add U N ρ,
           mul-le-mul-right N h,
           add-mul (b * (N + ρ)) T N,
-          add-mul (c * (N + (ρ + σ + 1))) (T + 2 * U) N,
-          add-mul T (2 * U) N,
+          add-mul (c * (N + (ρ + σ + 1))) (T + U + W) N,
+          add-mul (T + U) W N,
+          add-mul T U N,
         )
 
 pub rel-trans :
@@ -63,9 +63,10 @@ pub rel-trans :
 rel-trans N ρ σ T U a b c hN small hρ hσ r s =
     let swap : σ + ρ + 1 ≡ ρ + σ + 1 = omega arith in
     record {
-      low = le-trans (chain N ρ σ T U a b c hN small hρ (r .low) (s .low)) (omega arith);
+      low = le-trans (chain N ρ σ T U U a b c hN small (mul-le-mul-left U hρ) (r .low) (s .low)) (omega arith);
       high =
-          le-trans (chain N σ ρ U T c b a hN (le-trans (le-of-eq (mul-comm σ ρ)) small) hσ (s .high) (r .high))
+          le-trans
+          (chain N σ ρ U T T c b a hN (le-trans (le-of-eq (mul-comm σ ρ)) small) (mul-le-mul-left T hσ) (s .high) (r .high))
           (omega (arith, ap (λ (t : ℕ). a * (N + t)) swap));
     }
 

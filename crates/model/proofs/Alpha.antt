@@ -12,7 +12,7 @@ use lib.Dec.{ltb, lit≤}
 use lib.IntN.{ℤ, pos, negsuc, natAbs, _-ℤ_, _*ℤ_}
 use Rattle.exact.specs.Near.{up, dn, NearZ, Within, Rel}
 use Rattle.exact.specs.Exact.{E30, mulE}
-use Rattle.reckon.specs.Fixed.{E9, K21, mulDiv}
+use Rattle.fixed.specs.Fixed.{E9, K21, mulDiv}
 use Rattle.tables.specs.declared.Coefficients.{Coefficients}
 use Rattle.model.proofs.Curve.{Paired, curve-low-fixed, curve-low, curve-near, curve-high}
 use Rattle.model.specs.Fixed.{siteCFixed, alphaFixed, curveFixed}

@@ -12,7 +12,7 @@ use lib.IntN.{ℤ, pos, negℤ, _*ℤ_, _-ℤ_}
 use Rattle.exact.specs.Near.{up, dn, NearZ, Rel}
 use Rattle.exact.specs.Exact.{E30, expE}
 use Rattle.exact.proofs.NearLaws.{near-wide}
-use Rattle.reckon.specs.Fixed.{E9, K20, K21, mulDiv, expFixed}
+use Rattle.fixed.specs.Fixed.{E9, K20, K21, mulDiv, expFixed}
 use Rattle.tables.specs.declared.Coefficients.{Coefficients}
 use Rattle.model.proofs.Through.{rel-cut}
 use Rattle.model.proofs.Quotients.{near-pos, pos-high, pos-low}
@@ -24,7 +24,7 @@ use Rattle.model.proofs.NearSums.{near-back, shareErr, near-prod, near-
 use Rattle.exact.proofs.Rounding.{quot-whole, floor-whole}
 use mathlib.Core.Bool.{Bool, true, false}
 use Rattle.exact.proofs.Quotients.{div-le}
-use Rattle.reckon.proofs.ExpNear.{expFixed-near}
+use Rattle.fixed.proofs.ExpNear.{expFixed-near}
 use lib.Signed.{shrZ}
 
 -- ---- the exponential of a number that is not positive

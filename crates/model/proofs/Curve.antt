@@ -12,11 +12,11 @@ use lib.IntN.{ℤ, pos, natAbs, _*ℤ_, negsuc}
 use lib.Ieee.Nearest.{div-mono}
 use Rattle.exact.specs.Near.{up, dn, NearZ, Rel, Whole}
 use Rattle.exact.specs.Exact.{E30, lnE, expE, mulE, powE}
-use Rattle.reckon.specs.Fixed.{E9, K20, K21, mulDiv, lnQuotient, expFixed}
-use Rattle.reckon.proofs.LnNear.{lnQuotient-near}
+use Rattle.fixed.specs.Fixed.{E9, K20, K21, mulDiv, lnQuotient, expFixed}
+use Rattle.fixed.proofs.LnNear.{lnQuotient-near}
 use Rattle.model.proofs.Between.{Between, near-between, between-wide, floor-order, between-ln, mul-up-order}
 use Rattle.model.specs.Equations.{siteN, E27, curve, siteC}
-use Rattle.reckon.proofs.SignedLaws.{mulDiv-abs, mulDiv-whole}
+use Rattle.fixed.proofs.SignedLaws.{mulDiv-abs, mulDiv-whole}
 use Rattle.model.specs.Fixed.{curveFixed, siteCFixed}
 use Rattle.exact.proofs.Signed.{by-sign, abs-parts, mul-up, mul-dn}
 use Rattle.model.proofs.NearSums.{near-quot, near-mul}

@@ -9,7 +9,7 @@ use lib.Dec.{lit≤}
 use lib.IntN.{ℤ, pos}
 use Rattle.exact.specs.Near.{up, dn, NearZ}
 use Rattle.exact.specs.Exact.{E30, rootE}
-use Rattle.reckon.specs.Fixed.{K21}
+use Rattle.fixed.specs.Fixed.{K21}
 use Rattle.tables.specs.Tables.{coefficientsAt, deviationsAt}
 use Rattle.model.specs.declared.Scenario.{Scenario}
 use Rattle.model.specs.Equations.{E24, alpha, intraVariance, intra, total, arbitrary, rockPGA, joined, inter}

@@ -14,7 +14,7 @@ use lib.Signed.{shrZ}
 use Rattle.exact.specs.Near.{up, dn, NearZ}
 use Rattle.exact.specs.Exact.{E30, lnE}
 use Rattle.exact.proofs.Computed.{run, run-from}
-use Rattle.reckon.specs.Fixed.{K21}
+use Rattle.fixed.specs.Fixed.{K21}
 use Rattle.tables.specs.declared.Coefficients.{Coefficients}
 use Rattle.tables.specs.Tables.{table2, coefficientsAt}
 use Rattle.model.specs.declared.Scenario.{Scenario}

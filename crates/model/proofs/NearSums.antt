@@ -11,8 +11,8 @@ use lib.Signed.{shrZ}
 use Rattle.exact.specs.Near.{up, dn, NearZ, Whole}
 use Rattle.exact.proofs.Signed.{abs-parts, add-parts, neg-up, neg-dn, mul-up, mul-dn}
 use Rattle.exact.proofs.Rounding.{floor-whole}
-use Rattle.reckon.specs.Fixed.{mulDiv}
-use Rattle.reckon.proofs.SignedLaws.{mulDiv-whole}
+use Rattle.fixed.specs.Fixed.{mulDiv}
+use Rattle.fixed.proofs.SignedLaws.{mulDiv-whole}
 
 -- ---- one number at both scales
 -- a multiple of D coarse units is the same multiple of D K fine ones

@@ -5,21 +5,22 @@
 use Prim.Native.Nat.{ℕ, _+_, _*_, _^_, _≤_, _<_}
 use mathlib.Core.Path.{_≡_, refl, sym, subst}
 use native.Mathlib.Omega.{arith}
-use native.Mathlib.Nat.{le-refl, le-trans, mul-le-mul-left, mul-le-mul-right, mul-assoc, mul-comm, mul-left-comm, mul-right-comm, mul-add, add-mul, le-of-mul-le-mul-right, add-le-add}
+use native.Mathlib.Nat.{le-refl, le-trans, mul-le-mul-right, mul-assoc, mul-comm, mul-left-comm, mul-right-comm, add-mul, le-of-mul-le-mul-right, add-le-add}
 use lib.Dec.{lit≤}
 use lib.IntN.{ℤ, pos, _*ℤ_}
 use Rattle.exact.specs.Near.{up, dn, NearZ}
 use Rattle.exact.specs.Exact.{E30, expE}
-use Rattle.reckon.specs.Fixed.{E9, K20, K21, nearest, expFixed}
+use Rattle.fixed.specs.Fixed.{E9, K20, K21, nearest, expFixed}
 use Rattle.model.specs.declared.Scenario.{Scenario}
-use Rattle.reckon.proofs.SignedLaws.{nearest-half}
+use Rattle.fixed.proofs.SignedLaws.{nearest-half}
 use Rattle.exact.proofs.ExpExact.{expE-near, expE-mono}
 use Rattle.model.proofs.Rock.{minusFifteen}
 use Rattle.model.specs.Accuracy.{InRange}
+use Rattle.exact.proofs.RelLaws.{chain}
 use Rattle.exact.proofs.NearLaws.{near→within}
 use Rattle.model.specs.Equations.{median, lnMedian, most, E24}
 use Rattle.model.specs.Fixed.{lnMedianFixed}
-use Rattle.reckon.proofs.ExpNear.{expFixed-near}
+use Rattle.fixed.proofs.ExpNear.{expFixed-near}
 use Rattle.model.proofs.Median.{lnMedian-size, lnMedian-near, lnMedian-between}
 use Rattle.model.proofs.WallNear.{most-by}
 
@@ -56,47 +57,6 @@ report-near {K} {e} {s} {x} he n =
     turned h = omega arith
 
 -- ---- the median
--- a chain that keeps the first slack as it is: W makes up for U ρ/N
-chain-fine :
-    (N ρ σ T U W a b c : ℕ) → 0 < N → ρ * σ ≤ N → U * ρ ≤ W * N → a * N ≤ b * (N + ρ) + T → b * N ≤ c * (N + σ) + U
-    → a * N ≤ c * (N + (ρ + σ + 1)) + (T + U + W)
-chain-fine N ρ σ T U W a b c hN small hW h k = le-of-mul-le-mul-right whole hN
-  where
-    one : b * (N + ρ) * N ≤ c * (N + σ) * (N + ρ) + U * (N + ρ)
-    one = omega (arith, mul-right-comm b (N + ρ) N, mul-le-mul-right (N + ρ) k, add-mul (c * (N + σ)) U (N + ρ))
-
-    two : (N + σ) * (N + ρ) ≤ (N + (ρ + σ + 1)) * N
-    two =
-        omega (
-          arith,
-          mul-add (N + σ) N ρ,
-          add-mul N σ ρ,
-          mul-comm N ρ,
-          mul-comm σ ρ,
-          add-mul N σ N,
-          add-mul N (ρ + σ + 1) N,
-          add-mul (ρ + σ) 1 N,
-          add-mul ρ σ N,
-        )
-
-    three : c * (N + σ) * (N + ρ) ≤ c * (N + (ρ + σ + 1)) * N
-    three = omega (arith, mul-assoc c (N + σ) (N + ρ), mul-le-mul-left c two, mul-assoc c (N + (ρ + σ + 1)) N)
-
-    whole : a * N * N ≤ (c * (N + (ρ + σ + 1)) + (T + U + W)) * N
-    whole =
-        omega (
-          arith,
-          one,
-          three,
-          hW,
-          mul-add U N ρ,
-          mul-le-mul-right N h,
-          add-mul (b * (N + ρ)) T N,
-          add-mul (c * (N + (ρ + σ + 1))) (T + U + W) N,
-          add-mul (T + U) W N,
-          add-mul T U N,
-        )
-
 -- 413 parts and a little more than a unit
 pub record Valued (p y : ℕ) : Type 0 where
   pub low : p * E9 ≤ y * (E9 + 413) + K20 * (E9 + 11)
@@ -111,11 +71,11 @@ value-near s x hu hd n =
     record {
       low =
           le-trans
-          (chain-fine E9 10 402 (K20 * (E9 + 10)) (E9 + 402) 11 p m (expE x) (lit≤ tt) (lit≤ tt) (lit≤ tt) (leaf .low) (near .low))
+          (chain E9 10 402 (K20 * (E9 + 10)) (E9 + 402) 11 p m (expE x) (lit≤ tt) (lit≤ tt) (lit≤ tt) (leaf .low) (near .low))
           (add-le-add (le-refl (expE x * (E9 + 413))) (lit≤ tt));
       high =
           le-trans
-          (chain-fine E9 402 10 (E9 + 402) (K20 * (E9 + 10)) (K20 * 403) (expE x) m p (lit≤ tt) (lit≤ tt) (lit≤ tt) (near .high)
+          (chain E9 402 10 (E9 + 402) (K20 * (E9 + 10)) (K20 * 403) (expE x) m p (lit≤ tt) (lit≤ tt) (lit≤ tt) (near .high)
           (leaf .high))
           (add-le-add (le-refl (p * (E9 + 413))) (lit≤ tt));
     }

@@ -14,7 +14,7 @@ use Rattle.exact.specs.Near.{up, dn, NearZ, Rel}
 use Rattle.exact.specs.Exact.{E30, lnE, expE}
 use Rattle.exact.proofs.Computed.{run, run-from}
 use Rattle.tables.specs.Tables.{table2, coefficientsAt}
-use Rattle.reckon.specs.Fixed.{E9, K20, K21, expFixed}
+use Rattle.fixed.specs.Fixed.{E9, K20, K21, expFixed}
 use Rattle.model.specs.declared.Scenario.{Scenario}
 use Rattle.model.proofs.Fair.{Fair, leAll, restErr, fair-at, linearErr, le-all}
 use Rattle.model.specs.Equations.{E24, E27, linear, fSite, PGA, fMag, rockPGA, times, lnMedianAt}
@@ -26,7 +26,7 @@ use Rattle.model.proofs.Through.{rel-most, rel-cut, exp-through}
 use Rattle.model.proofs.Ends.{lowEnd, highEnd, sum-between, distance-between}
 use Rattle.exact.proofs.ExpExact.{expE-mono}
 use Rattle.model.proofs.NearSums.{near-share}
-use Rattle.reckon.proofs.LnNear.{lnQuotient-near}
+use Rattle.fixed.proofs.LnNear.{lnQuotient-near}
 use Rattle.exact.proofs.NearLaws.{near-wide}
 use Rattle.model.proofs.TermsNear.{terms-near}
 

@@ -12,7 +12,7 @@ use lib.IntN.{pos}
 use Rattle.exact.specs.Near.{NearZ}
 use Rattle.exact.specs.Root.{root}
 use Rattle.exact.specs.Exact.{E30, rootE}
-use Rattle.reckon.specs.Fixed.{K21}
+use Rattle.fixed.specs.Fixed.{K21}
 use Rattle.model.specs.Fixed.{sigmaOf}
 use Rattle.model.specs.Equations.{E24}
 use Rattle.exact.proofs.Root.{root-is, side-lt}

@@ -13,7 +13,7 @@ use lib.IntN.{pos, _+ℤ_, _-ℤ_, _*ℤ_}
 use lib.Signed.{shrZ}
 use Rattle.exact.specs.Near.{NearZ, Rel}
 use Rattle.exact.specs.Exact.{E30, lnE}
-use Rattle.reckon.specs.Fixed.{E9, K21, mulDiv, lnFixed, lnQuotient}
+use Rattle.fixed.specs.Fixed.{E9, K21, mulDiv, lnFixed, lnQuotient}
 use Rattle.tables.specs.declared.Coefficients.{Coefficients}
 use Rattle.model.specs.declared.Scenario.{Scenario}
 use Rattle.model.proofs.Curve.{Paired, curve-low-fixed, curve-low, curve-high-fixed, quotient-near, curve-near, curve-high}

@@ -10,12 +10,12 @@ use lib.Dec.{ltb, leb, eqb, lit≤}
 use lib.IntN.{ℤ, pos, natAbs, _+ℤ_, _-ℤ_, _*ℤ_}
 use Rattle.exact.specs.Near.{up, dn}
 use Rattle.exact.specs.Root.{root}
-use Rattle.reckon.specs.Fixed.{E9, mulDiv, lnFixed, lnQuotient, nearest, K21}
+use Rattle.fixed.specs.Fixed.{E9, mulDiv, lnFixed, lnQuotient, nearest, K21}
 use Rattle.request.specs.declared.Style.{Style}
 use Rattle.request.specs.declared.Style.the-variants.{StrikeSlip, Reverse, Normal}
 use Rattle.tables.specs.declared.Coefficients.{Coefficients}
 use Rattle.model.specs.declared.Scenario.{Scenario}
-use Rattle.reckon.proofs.SignedLaws.{mulDiv-abs, nearest-half}
+use Rattle.fixed.proofs.SignedLaws.{mulDiv-abs, nearest-half}
 use Rattle.exact.proofs.Signed.{by-sign, abs-parts, mul-abs-le, sub-is, add-abs, mul-abs}
 use Rattle.model.proofs.Fair.{Fair}
 use Rattle.model.specs.Fixed.{fMagFixed, lnDistance, fDisFixed, fFltFixed, wallDistanceFixed, fHngRFixed, wallFixed, fHngFixed, deepFixed, fSedFixed, fSiteFixed, sigmaOf, curveFixed, alphaFixed, varianceFixed, siteCFixed, lnMedianFixed, atBaseFixed}
@@ -32,7 +32,7 @@ use Rattle.model.proofs.SiteNear.{RockNear, logarithms-near, paired, ca
 use Rattle.model.specs.Accuracy.{InRange}
 use Rattle.model.proofs.Alpha.{alpha-between, alpha-near}
 use Rattle.exact.specs.Exact.{E30, lnE}
-use Rattle.reckon.proofs.LnNear.{lnFixed-near}
+use Rattle.fixed.proofs.LnNear.{lnFixed-near}
 use Rattle.model.proofs.Demand.{intra-variance, exactVariance, variance-top}
 use Rattle.model.proofs.Quotients.{pos-low}
 use Rattle.tables.specs.Tables.{deviationsAt}

@@ -10,7 +10,7 @@ use lib.IntN.{pos, natAbs, _*ℤ_}
 use Rattle.exact.specs.Near.{up, dn, NearZ}
 use Rattle.exact.specs.Exact.{lnE}
 use Rattle.exact.proofs.NearLaws.{near-wide}
-use Rattle.reckon.specs.Fixed.{E9, K21, lnFixed}
+use Rattle.fixed.specs.Fixed.{E9, K21, lnFixed}
 use Rattle.request.specs.declared.Style.{Style}
 use Rattle.request.specs.declared.Style.the-variants.{StrikeSlip, Reverse, Normal}
 use Rattle.tables.specs.declared.Coefficients.{Coefficients}
@@ -21,7 +21,7 @@ use Rattle.model.specs.Equations.{fMag, fFlt, slope, E24, fDis, lnMedian
 use Rattle.model.proofs.NearSums.{near-exact, shareErr, near-share, near-add}
 use Rattle.exact.proofs.Signed.{by-sign, abs-parts, add-parts, mul-up, mul-dn}
 use Rattle.model.specs.Accuracy.{InRange}
-use Rattle.reckon.proofs.LnNear.{lnFixed-near}
+use Rattle.fixed.proofs.LnNear.{lnFixed-near}
 use Rattle.model.proofs.WallNear.{fHng-near}
 use Rattle.model.proofs.Basin.{fSed-near}
 

@@ -14,9 +14,9 @@ use Rattle.exact.proofs.NearLaws.{near-within, near→within}
 use Rattle.exact.proofs.RelLaws.{rel-wide, rel-trans}
 use Rattle.exact.proofs.LnExact.{lnE-near}
 use Rattle.exact.proofs.ExpExact.{expE-near}
-use Rattle.reckon.specs.Fixed.{E9, K20, K21, lnFixed, expFixed}
-use Rattle.reckon.proofs.LnNear.{lnFixed-near}
-use Rattle.reckon.proofs.ExpNear.{expFixed-near}
+use Rattle.fixed.specs.Fixed.{E9, K20, K21, lnFixed, expFixed}
+use Rattle.fixed.proofs.LnNear.{lnFixed-near}
+use Rattle.fixed.proofs.ExpNear.{expFixed-near}
 
 -- ln x against the exact ln y, x and y within ρ parts in 10^9
 pub ln-through :

@@ -14,7 +14,7 @@ use lib.Signed.{shrZ}
 use Rattle.exact.specs.Near.{up, dn, NearZ, Within}
 use Rattle.exact.specs.Exact.{E30, mulE, rootE}
 use Rattle.exact.specs.Root.{root, IsRoot}
-use Rattle.reckon.specs.Fixed.{E9, K21, mulDiv}
+use Rattle.fixed.specs.Fixed.{E9, K21, mulDiv}
 use Rattle.tables.specs.declared.Deviations.{Deviations}
 use Rattle.tables.specs.Tables.{table3, deviationsAt}
 use Rattle.model.specs.Fixed.{atBaseFixed, crossFixed, intraVarianceFixed}
@@ -25,7 +25,7 @@ use Rattle.model.proofs.Alpha.{alphaLow}
 use Rattle.exact.proofs.NearLaws.{near-wide, near-within}
 use Rattle.exact.proofs.Signed.{abs-parts, by-sign, add-parts, *ℤ-+ℤ, mul-up, mul-dn, mul-abs-le, scaled-up, scaled-dn}
 use Rattle.model.proofs.NearSums.{near-back, shareErr, near-share, near-prod, near-add, near-exact}
-use Rattle.reckon.proofs.SignedLaws.{mulDiv-whole}
+use Rattle.fixed.proofs.SignedLaws.{mulDiv-whole}
 use Rattle.exact.proofs.Rounding.{mulE-whole, floor-whole}
 use Rattle.model.proofs.WallNear.{root-cut, squares}
 use Rattle.exact.proofs.Root.{root-is, square-one, side-lt, square-two}

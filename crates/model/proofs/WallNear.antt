@@ -17,7 +17,7 @@ use Rattle.exact.specs.Root.{root, IsRoot}
 use Rattle.exact.specs.Exact.{E30, rootE}
 use Rattle.exact.proofs.NearLaws.{near-wide}
 use Rattle.exact.proofs.Root.{root-is, side-lt, square-one}
-use Rattle.reckon.specs.Fixed.{E9, K21, mulDiv}
+use Rattle.fixed.specs.Fixed.{E9, K21, mulDiv}
 use Rattle.model.specs.Equations.{E24, E27, most, wallDistance, fHngR, fHngM, fHngDip, fHngZ, fHng, times}
 use Rattle.model.specs.Fixed.{wallDistanceFixed, fHngRFixed, fHngFixed, wallFixed}
 use Rattle.model.specs.declared.Scenario.{Scenario}

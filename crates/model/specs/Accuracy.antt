@@ -2,7 +2,7 @@
 use Prim.Native.Nat.{ℕ, _+_, _*_, _≤_}
 use lib.IntN.{pos}
 use Rattle.exact.specs.Near.{NearZ}
-use Rattle.reckon.specs.Fixed.{K20}
+use Rattle.fixed.specs.Fixed.{K20}
 use Rattle.model.specs.declared.Scenario.{Scenario}
 use Rattle.model.specs.declared.Row.{Row}
 use Rattle.model.specs.Equations.{E24, lnMedian, median, intra, inter, total, arbitrary}

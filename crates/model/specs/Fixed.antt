@@ -8,7 +8,7 @@ use lib.Dec.{ltb, leb, eqb}
 use lib.IntN.{ℤ, pos, negℤ, _+ℤ_, _-ℤ_, _*ℤ_}
 use Rattle.exact.specs.Near.{up}
 use Rattle.exact.specs.Root.{root}
-use Rattle.reckon.specs.Fixed.{E9, mulDiv, nearest, lnFixed, lnQuotient, expFixed}
+use Rattle.fixed.specs.Fixed.{E9, mulDiv, nearest, lnFixed, lnQuotient, expFixed}
 use Rattle.request.specs.declared.Style.{Style}
 use Rattle.request.specs.declared.Style.the-variants.{StrikeSlip, Reverse, Normal}
 use Rattle.tables.specs.declared.Coefficients.{Coefficients}

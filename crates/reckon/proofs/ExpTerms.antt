@@ -5,7 +5,7 @@ use native.Mathlib.Nat.{le-refl, le-trans, add-le-add, mul-le-mul}
 use native.Mathlib.Omega.{arith}
 use lib.Dec.{lit≤}
 use Rattle.exact.specs.Series.{expTerms}
-use Rattle.reckon.specs.Fixed.{E10, LN2, expUnit}
+use Rattle.fixed.specs.Fixed.{E10, LN2, expUnit}
 use Rattle.exact.proofs.Quotients.{div-le}
 use Rattle.exact.proofs.ExpSeries.{expTerms-mono}
 

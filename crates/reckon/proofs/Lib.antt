@@ -1,10 +1,5 @@
 pub mod Fitting
 pub mod Shifts
 pub mod LnTerms
-pub mod LnTwos
 pub mod ExpTerms
 pub mod SineTerms
-pub mod SignedLaws
-pub mod LnNear
-pub mod ExpNear
-pub mod SineNear

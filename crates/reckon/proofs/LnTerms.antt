@@ -6,7 +6,7 @@ use native.Mathlib.Nat.{le-trans, mul-le-mul}
 use native.Mathlib.Omega.{arith}
 use lib.Dec.{lit≤}
 use Rattle.exact.specs.Series.{lnTerms}
-use Rattle.reckon.specs.Fixed.{E10}
+use Rattle.fixed.specs.Fixed.{E10}
 use Rattle.exact.proofs.Quotients.{div-le}
 use Rattle.exact.proofs.LnSeries.{lnTerms-mono}
 

@@ -4,7 +4,7 @@ use crate::units::LN2;
 ghost use mathlib.Core.Path.{_≡_};
 ghost use Prim.Native.Nat.{_*_, _≤_, _<_};
 ghost use Rattle.exact.specs.Near.{up, dn};
-ghost use Rattle.reckon.specs.Fixed.{E10, LN2, expUnit, expFixed};
+ghost use Rattle.fixed.specs.Fixed.{E10, LN2, expUnit, expFixed};
 
 // e^r, r from 0 to ln 2, both in units of 10^-10: twelve terms. The third is made from a quarter of
 // r, since r r would not fit.

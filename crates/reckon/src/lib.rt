@@ -1,7 +1,7 @@
 // The 64-bit functions that every figure is made of: signed products and quotients, the root, the
-// logarithm, the exponential, the sine and the cosine. Each equals a definition of specs/Fixed, and
-// proofs/ says how near that lies to the exact value. Unless it says otherwise a number stands in
-// units of 10^-9.
+// logarithm, the exponential, the sine and the cosine. Each equals a definition of crate fixed, the root
+// one of exact, and fixed's proofs/ say how near that lies to the exact value. Unless it says otherwise
+// a number stands in units of 10^-9.
 mod exp;
 mod ln;
 mod root;

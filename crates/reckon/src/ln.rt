@@ -4,7 +4,7 @@ use crate::units::E10;
 use crate::units::LN2;
 ghost use mathlib.Core.Path.{_≡_};
 ghost use Prim.Native.Nat.{_*_, _≤_, _<_};
-ghost use Rattle.reckon.specs.Fixed.{E9, lnRatio, lnFixed, lnQuotient};
+ghost use Rattle.fixed.specs.Fixed.{E9, lnRatio, lnFixed, lnQuotient};
 
 // ln 8 in units of 10^-9.
 const LN8: i64 = 2_079_441_541;

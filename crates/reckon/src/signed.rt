@@ -3,7 +3,7 @@
 ghost use mathlib.Core.Path.{_≡_};
 ghost use Prim.Native.Nat.{_*_, _^_, _≤_, _<_};
 ghost use lib.IntN.{natAbs};
-ghost use Rattle.reckon.specs.Fixed.{mulDiv, nearest};
+ghost use Rattle.fixed.specs.Fixed.{mulDiv, nearest};
 
 // a b / d, rounded toward zero.
 pub fn mul_div(a: i64, b: i64, d: i64) -> i64

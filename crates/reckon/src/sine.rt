@@ -4,7 +4,7 @@ ghost use mathlib.Core.Path.{_≡_};
 ghost use Prim.Native.Nat.{_+_, _*_, _≤_};
 ghost use lib.IntN.{pos};
 ghost use Rattle.exact.specs.Series.{alternating};
-ghost use Rattle.reckon.specs.Fixed.{E9, sinAcute, sinFixed, cosFixed};
+ghost use Rattle.fixed.specs.Fixed.{E9, sinAcute, sinFixed, cosFixed};
 
 // Pi in units of 10^-16, and 180 degrees in units that bring a product with it to 10^-9.
 const PI16: u64 = 31_415_926_535_897_932;

@@ -1,16 +1,15 @@
 // The rupture distance from the distance to its projection, RJB, and the azimuth: the equations of
-// Kaklamanos, Baise and Boore (2011). Each function equals a definition of specs/Fixed, and proofs/
-// says how near that lies to the equations themselves, which stand in specs/Geometry.
+// Kaklamanos, Baise and Boore (2011). Each function equals a definition of crate geometry, whose proofs/
+// say how near that lies to the equations themselves.
 mod plan;
 mod section;
 
 ghost use mathlib.Core.Path.{_≡_};
 ghost use Prim.Native.Nat.{_+_, _*_, _≤_, _<_};
-ghost use Rattle.rupture.specs.Geometry.{ceilRoot, onHangingWall};
-ghost use Rattle.rupture.specs.Fixed.{InRange, hangingWallFixed, larger, ruptureDistance};
-pub use plan::Place;
+ghost use Rattle.geometry.specs.Geometry.{ceilRoot, onHangingWall};
+ghost use Rattle.geometry.specs.Fixed.{RuptureInRange, hangingWallFixed, larger, ruptureDistance};
+use plan::projected_width;
 use plan::site;
-use plan::width;
 use reckon::cos_deg;
 use reckon::whole_root;
 pub use section::from_plan;
@@ -41,16 +40,16 @@ fn on_hanging_wall(dip: u64, azimuth: i64) -> bool
 
 // RRUP on the hanging wall, rounded up.
 fn hanging_wall(dip: u64, azimuth: u64, w: u64, ztor: u64, rjb: u64) -> u64
-    requires { ⌜ InRange dip w ztor rjb × (dip < 90) × (1 ≤ azimuth) × (azimuth ≤ 179) ⌝ }
+    requires { ⌜ RuptureInRange dip w ztor rjb × (dip < 90) × (1 ≤ azimuth) × (azimuth ≤ 179) ⌝ }
     ensures { λ r. ⌜ r ≡ hangingWallFixed dip azimuth w ztor rjb ⌝ }
 {
-    let h = width(w, cos_deg(dip));
+    let h = projected_width(w, cos_deg(dip));
     from_plan(dip, w, ztor, site(azimuth, h, rjb))
 }
 
 // RRUP in whole metres, never below the root of RJB² + ZTOR².
 pub fn rupture_distance(dip: u64, azimuth: i64, w: u64, ztor: u64, rjb: u64) -> u64
-    requires { ⌜ InRange dip w ztor rjb ⌝ }
+    requires { ⌜ RuptureInRange dip w ztor rjb ⌝ }
     ensures { λ r. ⌜ r ≡ ruptureDistance dip azimuth w ztor rjb ⌝ }
 {
     let least = ceil_root(rjb * rjb + ztor * ztor);

@@ -2,24 +2,18 @@
 // of width h there. Sines and cosines stand in units of 10^-9, lengths in tenths of a millimetre.
 ghost use mathlib.Core.Path.{_≡_};
 ghost use Prim.Native.Nat.{_+_, _*_, _≤_, _<_};
-ghost use Rattle.reckon.specs.Fixed.{E9};
-ghost use Rattle.rupture.specs.Fixed.{widthFixed, fromTopFixed, placeFixed, siteFixed};
+ghost use Rattle.fixed.specs.Fixed.{E9};
+ghost use Rattle.geometry.specs.Fixed.{projectedWidthFixed, fromTopFixed, placeFixed, siteFixed};
+use geometry::Place;
+use reckon::E9;
 use reckon::cos_deg;
 use reckon::sin_deg;
 use reckon::whole_root;
 
-const E9: u64 = 1_000_000_000;
-
-// RX and RY, in tenths of a millimetre.
-pub struct Place {
-    pub x: u64,
-    pub y: u64,
-}
-
-// h = W cos(dip), W in metres.
-pub fn width(w: u64, cd: u64) -> u64
+// h = W cos(dip), the width of the rupture's projection; W in metres.
+pub fn projected_width(w: u64, cd: u64) -> u64
     requires { ⌜ (w ≤ 100000) × (cd ≤ E9) ⌝ }
-    ensures { λ h. ⌜ (h ≡ widthFixed w cd) × (h ≤ E9) ⌝ }
+    ensures { λ h. ⌜ (h ≡ projectedWidthFixed w cd) × (h ≤ E9) ⌝ }
 {
     w * cd / 100_000
 }

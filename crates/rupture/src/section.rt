@@ -2,9 +2,9 @@
 // off the plane of the rupture and e above its upper or beyond its lower edge; RY is across both.
 ghost use mathlib.Core.Path.{_≡_};
 ghost use Prim.Native.Nat.{_+_, _*_, _≤_, _<_};
-ghost use Rattle.reckon.specs.Fixed.{E9};
-ghost use Rattle.rupture.specs.Fixed.{offEdgesFixed, rrupFixed, fromPlanFixed};
-use super::plan::Place;
+ghost use Rattle.fixed.specs.Fixed.{E9};
+ghost use Rattle.geometry.specs.Fixed.{offEdgesFixed, rrupFixed, fromPlanFixed};
+use geometry::Place;
 use reckon::cos_deg;
 use reckon::sin_deg;
 use reckon::whole_root;

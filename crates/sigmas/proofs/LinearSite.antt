@@ -7,8 +7,8 @@ use lib.IntN.{ℤ, pos, natAbs, _+ℤ_}
 use Rattle.exact.specs.Near.{up}
 use Rattle.exact.specs.Root.{root}
 use Rattle.exact.proofs.Root.{root-unique}
-use Rattle.reckon.specs.Fixed.{E9, mulDiv}
-use Rattle.reckon.proofs.SignedLaws.{mulDiv-zero}
+use Rattle.fixed.specs.Fixed.{E9, mulDiv}
+use Rattle.fixed.proofs.SignedLaws.{mulDiv-zero}
 use Rattle.tables.specs.declared.Deviations.{Deviations}
 use Rattle.tables.specs.Tables.{table3, deviationsAt}
 use Rattle.model.specs.Equations.{PGA}

@@ -8,7 +8,7 @@ use lib.Dec.{ltb, lit≤}
 use lib.IntN.{pos, natAbs, _-ℤ_}
 use borrow.Author.Tests.{lt-ltb, le-ltb, ltb-true, ltb-false}
 use Rattle.exact.proofs.Signed.{by-sign, abs-parts, sub-is}
-use Rattle.reckon.specs.Fixed.{E9, lnFixed, lnQuotient}
+use Rattle.fixed.specs.Fixed.{E9, lnFixed, lnQuotient}
 use Rattle.tables.specs.declared.Coefficients.{Coefficients}
 use Rattle.model.specs.declared.Scenario.{Scenario}
 use Rattle.site.specs.declared.Soil.{Soil}

@@ -3,7 +3,7 @@ use Prim.Native.Nat.{ℕ, _+_}
 use mathlib.Core.Bool.{true, false}
 use lib.Dec.{ltb}
 use lib.IntN.{pos, _-ℤ_}
-use Rattle.reckon.specs.Fixed.{lnFixed, lnQuotient}
+use Rattle.fixed.specs.Fixed.{lnFixed, lnQuotient}
 use Rattle.model.specs.declared.Scenario.{Scenario}
 use Rattle.site.specs.declared.shared.Shared.{Shared}
 use Rattle.site.specs.declared.Soil.{Soil}

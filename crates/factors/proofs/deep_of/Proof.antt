@@ -11,7 +11,7 @@ use mir.Syntax.{w64}
 use mir.Val.{SFits, toZ, ofZ}
 use mir.Facts.{toZ-pos, toZ-ofZ}
 use Rattle.exact.proofs.Signed.{sfits, same-diff, sub-is, neg-up, neg-dn}
-use Rattle.reckon.specs.Fixed.{E9, E10, LN2, expShifted, expFixed}
+use Rattle.fixed.specs.Fixed.{E9, E10, LN2, expShifted, expFixed}
 use Rattle.reckon.proofs.ExpTerms.{expUnit-most}
 use Rattle.model.specs.Fixed.{deepFixed}
 use Rattle.factors.proofs.deep_of.Statement.{statement}

@@ -5,7 +5,7 @@ use mathlib.Core.Path.{_≡_, sym, ap, _∙_}
 use native.Mathlib.Omega.{arith}
 use native.Mathlib.Nat.{zero-div}
 use borrow.Author.Tests.{eq-eqb, ne-eqb}
-use Rattle.reckon.specs.Fixed.{E9}
+use Rattle.fixed.specs.Fixed.{E9}
 use Rattle.model.specs.Fixed.{wallDistanceFixed, fHngRFixed}
 use Rattle.model.proofs.Sizes.{wallDistance-size}
 use Rattle.factors.proofs.f_hng_r.Statement.{statement}

@@ -3,7 +3,7 @@ use borrow.Author.Needs.{needs}
 use Prim.Native.Nat.{_*_, _≤_}
 use native.Mathlib.Omega.{arith}
 use native.Mathlib.Nat.{mul-le-mul}
-use Rattle.reckon.specs.Fixed.{E9}
+use Rattle.fixed.specs.Fixed.{E9}
 use Rattle.model.specs.Fixed.{wallFixed}
 use Rattle.model.proofs.Sizes.{fHngR-size}
 use Rattle.model.proofs.WallNear.{M-le, others-le}

@@ -11,7 +11,7 @@ use mir.Val.{SFits}
 use mir.Facts.{toZ-ofZ}
 use Rattle.exact.specs.Near.{up, dn}
 use Rattle.exact.proofs.Signed.{sfits, sfits-abs}
-use Rattle.reckon.specs.Fixed.{nearest}
+use Rattle.fixed.specs.Fixed.{nearest}
 use Rattle.tables.specs.declared.Coefficients.{Coefficients}
 use Rattle.tables.specs.declared.Deviations.{Deviations}
 use Rattle.tables.specs.Tables.{coefficientsAt, deviationsAt}

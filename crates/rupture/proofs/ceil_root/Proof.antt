@@ -6,8 +6,8 @@ use native.Mathlib.Nat.{mul-le-mul}
 use borrow.Author.Needs.{needs}
 use borrow.Author.Tests.{le-leb, lt-leb}
 use Rattle.exact.specs.Root.{root}
-use Rattle.rupture.specs.Geometry.{ceilRoot}
-use Rattle.rupture.proofs.Lengths.{root-le}
+use Rattle.geometry.specs.Geometry.{ceilRoot}
+use Rattle.geometry.proofs.Lengths.{root-le}
 use Rattle.rupture.proofs.ceil_root.Statement.{statement}
 use Rattle.rupture.proofs.ceil_root.Tie as tie
 

@@ -3,17 +3,17 @@ use Prim.Native.Nat.{ℕ}
 use mathlib.Core.Path.{ap, _∙_}
 use native.Mathlib.Omega.{arith}
 use borrow.Author.Needs.{needs}
-use Rattle.rupture.specs.Fixed.{widthFixed, siteFixed, fromPlanFixed, hangingWallFixed}
-use Rattle.rupture.specs.declared.plan.Place.{Place}
-use Rattle.rupture.proofs.Angles.{degrees, cosine-is}
+use Rattle.geometry.specs.Fixed.{projectedWidthFixed, siteFixed, fromPlanFixed, hangingWallFixed}
+use Rattle.geometry.specs.declared.Place.{Place}
+use Rattle.geometry.proofs.Angles.{degrees, cosine-is}
 use Rattle.rupture.proofs.hanging_wall.Statement.{statement}
 use Rattle.rupture.proofs.hanging_wall.Tie as tie
 
 cos-deg-requires : tie.Need-cos-deg-requires
 cos-deg-requires c κs = search needs
 
-width-requires : tie.Need-width-requires
-width-requires c κs =
+projected-width-requires : tie.Need-projected-width-requires
+projected-width-requires c κs =
     let b = c .before in
     let a = b .args .dip in
     let d = degrees a (omega (arith, b .pre .0 .dip-low)) (omega (arith, b .pre .1)) (λ e. omega (arith, b .pre .1)) in
@@ -30,11 +30,11 @@ unfolding hangingWallFixed
 returns c =
     let a = c .before .before .before .before .args in
     let k = cosine-is (a .dip) (c .before .before .before .cos-deg .result) (c .before .before .before .cos-deg .ensures) in
-    let h = c .before .before .width .ensures .0 ∙ ap (λ (t : ℕ). widthFixed (a .w) t) k in
+    let h = c .before .before .projected-width .ensures .0 ∙ ap (λ (t : ℕ). projectedWidthFixed (a .w) t) k in
     c .from-plan .ensures
     ∙ ap (λ (p : Place). fromPlanFixed (a .dip) (a .w) (a .ztor) p)
     (c .before .site .ensures .0 ∙ ap (λ (t : ℕ). siteFixed (a .azimuth) t (a .rjb)) h)
 
 pub hanging-wall-spec : {M : Type 1} → statement M
 hanging-wall-spec =
-    tie.close (tie.spec cos-deg-requires width-requires site-requires from-plan-requires returns)
+    tie.close (tie.spec cos-deg-requires projected-width-requires site-requires from-plan-requires returns)

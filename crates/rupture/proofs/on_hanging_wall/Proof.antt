@@ -7,7 +7,7 @@ use lib.IntN.{pos}
 use lib.Signed.{ltZ}
 use borrow.Author.Tests.{lt-ltb, le-ltb}
 use mir.Facts.{toZ-ofZ}
-use Rattle.rupture.specs.Geometry.{onHangingWall}
+use Rattle.geometry.specs.Geometry.{onHangingWall}
 use Rattle.rupture.proofs.on_hanging_wall.Statement.{statement}
 use Rattle.rupture.proofs.on_hanging_wall.Tie as tie
 

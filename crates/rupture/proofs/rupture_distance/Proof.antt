@@ -7,9 +7,9 @@ use native.Mathlib.Nat.{mul-le-mul}
 use borrow.Author.Needs.{needs}
 use mir.Facts.{toZ-ofZ}
 use Rattle.exact.proofs.Signed.{as-unsigned}
-use Rattle.rupture.specs.Geometry.{onHangingWall}
-use Rattle.rupture.specs.Fixed.{larger}
-use Rattle.rupture.proofs.Reported.{hanging-wall, distance-on, distance-off}
+use Rattle.geometry.specs.Geometry.{onHangingWall}
+use Rattle.geometry.specs.Fixed.{larger}
+use Rattle.geometry.proofs.Reported.{hanging-wall, distance-on, distance-off}
 use Rattle.rupture.proofs.rupture_distance.Statement.{statement}
 use Rattle.rupture.proofs.rupture_distance.Tie as tie
 

@@ -11,8 +11,8 @@ use mir.Val.{SFits, toZ, ofZ}
 use mir.Facts.{toZ-pos, toZ-ofZ}
 use Rattle.exact.specs.Near.{up, dn}
 use Rattle.exact.proofs.Signed.{sfits-abs, add-abs, abs-parts, by-sign, lt-read, lit-fits, lt-parts, not-below, as-unsigned}
-use Rattle.reckon.specs.Fixed.{E9}
-use Rattle.reckon.proofs.SignedLaws.{mulDiv-abs}
+use Rattle.fixed.specs.Fixed.{E9}
+use Rattle.fixed.proofs.SignedLaws.{mulDiv-abs}
 use Rattle.tables.specs.declared.Deviations.{Deviations}
 use Rattle.model.specs.Fixed.{crossFixed, intraVarianceFixed}
 use Rattle.model.proofs.Fair.{Spread}

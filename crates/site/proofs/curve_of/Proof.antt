@@ -8,7 +8,7 @@ use mir.Syntax.{w64}
 use mir.Val.{Fits, SFits}
 use mir.Facts.{toZ-ofZ}
 use Rattle.exact.proofs.Signed.{sfits-abs, abs-parts}
-use Rattle.reckon.specs.Fixed.{mulDiv, expFixed}
+use Rattle.fixed.specs.Fixed.{mulDiv, expFixed}
 use Rattle.model.proofs.Sizes.{share-size}
 use Rattle.site.proofs.curve_of.Statement.{statement}
 use Rattle.site.proofs.curve_of.Tie as tie

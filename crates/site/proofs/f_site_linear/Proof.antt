@@ -11,7 +11,7 @@ use mir.Syntax.{w64}
 use mir.Val.{SFits}
 use mir.Facts.{toZ-ofZ}
 use Rattle.exact.proofs.Signed.{sfits-abs}
-use Rattle.reckon.specs.Fixed.{mulDiv, lnQuotient}
+use Rattle.fixed.specs.Fixed.{mulDiv, lnQuotient}
 use Rattle.tables.specs.declared.Coefficients.{Coefficients}
 use Rattle.model.specs.Equations.{least, linear}
 use Rattle.model.specs.Fixed.{fSiteFixed}

@@ -8,7 +8,7 @@ use mir.Syntax.{w64}
 use mir.Val.{SFits, toZ}
 use mir.Facts.{toZ-ofZ, toZ-pos}
 use Rattle.exact.proofs.Signed.{sfits-abs}
-use Rattle.reckon.specs.Fixed.{lnFixed, lnQuotient}
+use Rattle.fixed.specs.Fixed.{lnFixed, lnQuotient}
 use Rattle.tables.specs.declared.Coefficients.{Coefficients}
 use Rattle.model.specs.declared.Scenario.{Scenario}
 use Rattle.site.specs.declared.shared.Shared.{Shared}

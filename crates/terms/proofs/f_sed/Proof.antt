@@ -11,7 +11,7 @@ use mir.Syntax.{w64}
 use mir.Val.{SFits, toZ}
 use mir.Facts.{toZ-ofZ, toZ-pos}
 use Rattle.exact.proofs.Signed.{sfits-abs, mul-abs-le}
-use Rattle.reckon.specs.Fixed.{mulDiv}
+use Rattle.fixed.specs.Fixed.{mulDiv}
 use Rattle.tables.specs.declared.Coefficients.{Coefficients}
 use Rattle.model.specs.Fixed.{deepFixed, fSedFixed}
 use Rattle.model.specs.OfTables.{OfTable2}

@@ -5,7 +5,7 @@ use native.Mathlib.Omega.{arith}
 use native.Mathlib.Nat.{mul-le-mul, mul-comm}
 use mir.Facts.{toZ-ofZ}
 use Rattle.exact.proofs.Signed.{sfits-abs}
-use Rattle.reckon.specs.Fixed.{lnFixed}
+use Rattle.fixed.specs.Fixed.{lnFixed}
 use Rattle.tables.specs.declared.Coefficients.{Coefficients}
 use Rattle.model.specs.declared.Scenario.{Scenario}
 use Rattle.terms.specs.declared.Path.{Path}

@@ -7,7 +7,7 @@ use mir.Val.{SFits}
 use borrow.Author.Needs.{needs}
 use mathlib.Core.Path.{_≡_, ap, _∙_}
 use mir.Facts.{toZ-ofZ}
-use Rattle.rupture.specs.Fixed.{InRange}
+use Rattle.geometry.specs.Fixed.{RuptureInRange}
 use Rattle.completion.specs.Figures.{figureOf, rrup}
 use Rattle.completion.specs.Answers.{sourceFigures}
 use Rattle.completion.proofs.Ranges.{source-range, source-given, top-range, path-range}

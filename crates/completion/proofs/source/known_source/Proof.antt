@@ -4,8 +4,8 @@ use Prim.Native.Nat.{ℕ}
 use mathlib.Core.Path.{_≡_, ap, ap₂, _∙_}
 use Rattle.request.specs.declared.Style.{Style}
 use Rattle.request.specs.Fields.{sizeOf}
-use Rattle.estimate.specs.Rules.{dipOf}
-use Rattle.estimate.specs.Fixed.{widthFixed, topFixed}
+use Rattle.rules.specs.Rules.{dipOf}
+use Rattle.rules.specs.Fixed.{widthFixed, topFixed}
 use Rattle.completion.specs.Figures.{figureOf, style, dip, width, zhypOf, zhyp, ztor}
 use Rattle.completion.specs.Answers.{sourceFigures}
 use Rattle.completion.proofs.Ranges.{SourceRange, source-range}

@@ -9,10 +9,10 @@ use mir.Syntax.{w64}
 use mir.Val.{toZ, ofZ}
 use mir.Facts.{toZ-ofZ}
 use Rattle.exact.proofs.Signed.{abs-parts, sfits-abs}
-use Rattle.reckon.specs.Fixed.{E10, expFixed}
-use Rattle.estimate.specs.Rules.{extrapolated}
-use Rattle.estimate.specs.Fixed.{lnZ10Fixed, basinFixed}
-use Rattle.estimate.proofs.SiteSizes.{Sizes, sizes}
+use Rattle.fixed.specs.Fixed.{E10, expFixed}
+use Rattle.rules.specs.Rules.{extrapolated}
+use Rattle.rules.specs.Fixed.{lnZ10Fixed, basinFixed}
+use Rattle.rules.proofs.SiteSizes.{Sizes, sizes}
 use Rattle.estimate.proofs.site.basin_from_vs30.Statement.{statement}
 use Rattle.estimate.proofs.site.basin_from_vs30.Tie as tie
 

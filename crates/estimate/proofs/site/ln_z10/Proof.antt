@@ -11,10 +11,10 @@ use mir.Syntax.{w64}
 use mir.Val.{SFits}
 use mir.Facts.{toZ-ofZ}
 use Rattle.exact.proofs.Signed.{sfits-abs, add-abs, neg-abs}
-use Rattle.reckon.specs.Fixed.{mulDiv, lnQuotient}
-use Rattle.reckon.proofs.SignedLaws.{mulDiv-abs}
-use Rattle.estimate.specs.Fixed.{lnZ10Fixed}
-use Rattle.estimate.proofs.SiteSizes.{Sizes, sizes}
+use Rattle.fixed.specs.Fixed.{mulDiv, lnQuotient}
+use Rattle.fixed.proofs.SignedLaws.{mulDiv-abs}
+use Rattle.rules.specs.Fixed.{lnZ10Fixed}
+use Rattle.rules.proofs.SiteSizes.{Sizes, sizes}
 use Rattle.estimate.proofs.site.ln_z10.Statement.{statement}
 use Rattle.estimate.proofs.site.ln_z10.Tie as tie
 

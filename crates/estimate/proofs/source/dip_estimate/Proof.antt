@@ -1,6 +1,6 @@
 -- By the three cases. Assumes nothing.
 use borrow.Author.Needs.{needs}
-use Rattle.estimate.specs.Rules.{dipOf}
+use Rattle.rules.specs.Rules.{dipOf}
 use Rattle.estimate.proofs.source.dip_estimate.Statement.{statement}
 use Rattle.estimate.proofs.source.dip_estimate.Tie as tie
 

@@ -10,7 +10,7 @@ use denote.Enum.Declared.{tagOf}
 use Rattle.request.proofs.Style.{the-type}
 use Rattle.request.specs.declared.Style.{Style}
 use Rattle.request.specs.declared.Style.the-variants.{StrikeSlip, Reverse, Normal}
-use Rattle.estimate.specs.Rules.{hypocentre}
+use Rattle.rules.specs.Rules.{hypocentre}
 use Rattle.estimate.proofs.source.hypocentre_estimate.Statement.{statement}
 use Rattle.estimate.proofs.source.hypocentre_estimate.Tie as tie
 

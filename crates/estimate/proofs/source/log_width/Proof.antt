@@ -1,7 +1,7 @@
 -- By the three cases. Assumes nothing.
 use borrow.Author.Needs.{needs}
 use native.Mathlib.Omega.{arith}
-use Rattle.estimate.specs.Fixed.{logWidthFixed}
+use Rattle.rules.specs.Fixed.{logWidthFixed}
 use Rattle.estimate.proofs.source.log_width.Statement.{statement}
 use Rattle.estimate.proofs.source.log_width.Tie as tie
 

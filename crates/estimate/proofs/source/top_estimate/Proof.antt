@@ -5,9 +5,9 @@ use mathlib.Core.Path.{_≡_, ap}
 use native.Mathlib.Omega.{arith}
 use native.Mathlib.Nat.{mul-le-mul}
 use Rattle.exact.specs.Near.{up}
-use Rattle.reckon.specs.Fixed.{E9, E10, sinFixed}
-use Rattle.reckon.proofs.SineNear.{sinFixed-near}
-use Rattle.estimate.specs.Fixed.{topFixed}
+use Rattle.fixed.specs.Fixed.{E9, E10, sinFixed}
+use Rattle.fixed.proofs.SineNear.{sinFixed-near}
+use Rattle.rules.specs.Fixed.{topFixed}
 use Rattle.estimate.proofs.source.top_estimate.Statement.{statement}
 use Rattle.estimate.proofs.source.top_estimate.Tie as tie
 

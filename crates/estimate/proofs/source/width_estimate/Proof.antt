@@ -7,8 +7,8 @@ use lib.IntN.{pos}
 use mir.Syntax.{w64}
 use mir.Val.{toZ}
 use mir.Facts.{toZ-pos}
-use Rattle.reckon.specs.Fixed.{E10, expFixed}
-use Rattle.estimate.specs.Fixed.{LN10, widthFixed}
+use Rattle.fixed.specs.Fixed.{E10, expFixed}
+use Rattle.rules.specs.Fixed.{LN10, widthFixed}
 use Rattle.estimate.proofs.source.width_estimate.Statement.{statement}
 use Rattle.estimate.proofs.source.width_estimate.Tie as tie
 

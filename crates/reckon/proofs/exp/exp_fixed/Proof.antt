@@ -13,7 +13,7 @@ use mir.Val.{SFits, toZ, ofZ}
 use mir.Facts.{toZ-ofZ}
 use Rattle.exact.specs.Near.{up, dn}
 use Rattle.exact.proofs.Signed.{same-diff, sfits, add-parts, mul-up, mul-dn}
-use Rattle.reckon.specs.Fixed.{E10, LN2, expUnit, expShifted, expFixed}
+use Rattle.fixed.specs.Fixed.{E10, LN2, expUnit, expShifted, expFixed}
 use Rattle.reckon.proofs.Shifts.{shift-right, shift-left}
 use Rattle.reckon.proofs.exp.exp_fixed.Statement.{statement}
 use Rattle.reckon.proofs.exp.exp_fixed.Tie as tie

@@ -6,7 +6,7 @@ use native.Mathlib.Nat.{le-trans, le-of-lt, div-le-self, add-zero}
 use native.Mathlib.Omega.{arith}
 use lib.Dec.{lit≤}
 use Rattle.exact.specs.Series.{expTerms}
-use Rattle.reckon.specs.Fixed.{E10, LN2, expUnit}
+use Rattle.fixed.specs.Fixed.{E10, LN2, expUnit}
 use Rattle.exact.proofs.Quotients.{div-le, mul-small}
 use Rattle.reckon.proofs.Fitting.{mul-fits}
 use Rattle.reckon.proofs.ExpTerms.{exp-term, third-mono, expUnit-most}

@@ -6,8 +6,8 @@ use native.Mathlib.Nat.{le-refl, pow-succ'}
 use native.Mathlib.Omega.{arith}
 use lib.Dec.{lit≤, lit<}
 use lib.IntN.{pos, _-ℤ_}
-use Rattle.reckon.specs.Fixed.{E9, LN2, LN8, lnRatio, lnHalved, lnFixed}
-use Rattle.reckon.proofs.LnTwos.{halved-last, halved-more}
+use Rattle.fixed.specs.Fixed.{E9, LN2, LN8, lnRatio, lnHalved, lnFixed}
+use Rattle.fixed.proofs.LnTwos.{halved-last, halved-more}
 use Rattle.reckon.proofs.Fitting.{less-fits, less-is}
 use Rattle.reckon.proofs.ln.ln_fixed.Statement.{statement}
 use Rattle.reckon.proofs.ln.ln_fixed.Tie as tie

@@ -6,8 +6,8 @@ use native.Mathlib.Nat.{le-trans, le-of-eq, pow-suc, mul-assoc, mul-comm}
 use native.Mathlib.Omega.{arith}
 use lib.Dec.{lit<}
 use lib.IntN.{pos, _-ℤ_}
-use Rattle.reckon.specs.Fixed.{LN2, LN8, lnRatio, lnDoubled, lnQuotient}
-use Rattle.reckon.proofs.LnTwos.{doubled-last, doubled-more}
+use Rattle.fixed.specs.Fixed.{LN2, LN8, lnRatio, lnDoubled, lnQuotient}
+use Rattle.fixed.proofs.LnTwos.{doubled-last, doubled-more}
 use Rattle.reckon.proofs.Fitting.{less-fits, less-is}
 use Rattle.reckon.proofs.ln.ln_quotient.Statement.{statement}
 use Rattle.reckon.proofs.ln.ln_quotient.Tie as tie

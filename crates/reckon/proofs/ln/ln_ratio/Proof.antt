@@ -6,7 +6,7 @@ use native.Mathlib.Nat.{le-trans, zero-add, add-zero}
 use native.Mathlib.Omega.{arith}
 use lib.Dec.{lit≤}
 use Rattle.exact.specs.Series.{lnTerms}
-use Rattle.reckon.specs.Fixed.{E10, lnRatio}
+use Rattle.fixed.specs.Fixed.{E10, lnRatio}
 use Rattle.exact.proofs.Quotients.{mul-small}
 use Rattle.reckon.proofs.Fitting.{mul-fits}
 use Rattle.exact.proofs.LnSeries.{below-third}

@@ -6,7 +6,7 @@ use mir.Syntax.{w64}
 use mir.Val.{SFits}
 use mir.Facts.{toZ-ofZ}
 use Rattle.exact.proofs.Signed.{sfits-abs, mul-abs, bits-pos}
-use Rattle.reckon.specs.Fixed.{mulDiv}
+use Rattle.fixed.specs.Fixed.{mulDiv}
 use Rattle.reckon.proofs.Fitting.{quot-fits}
 use Rattle.reckon.proofs.signed.mul_div.Statement.{statement}
 use Rattle.reckon.proofs.signed.mul_div.Tie as tie

@@ -14,7 +14,7 @@ use mir.Facts.{toZ-ofZ, toZ-pos}
 use Rattle.exact.specs.Near.{up, dn}
 use Rattle.exact.proofs.Signed.{by-sign, same-parts, sfits-abs, lit-fits, lt-read, lt-parts, nlt-parts}
 use Rattle.exact.proofs.Signed.{sub-is, add-abs, neg-abs, neg-up, neg-dn, quot-up, quot-dn}
-use Rattle.reckon.specs.Fixed.{nearest}
+use Rattle.fixed.specs.Fixed.{nearest}
 use Rattle.reckon.proofs.Fitting.{quot-fits}
 use Rattle.reckon.proofs.signed.round_div.Statement.{statement}
 use Rattle.reckon.proofs.signed.round_div.Tie as tie

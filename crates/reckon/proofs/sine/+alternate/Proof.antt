@@ -8,7 +8,7 @@ use lib.IntN.{ℤ, pos, _-ℤ_}
 use borrow.Fn.Kinds.{In}
 use borrow.Fn.PlainCycle.{Measures, is, falls, and}
 use Rattle.exact.specs.Series.{alternating}
-use Rattle.reckon.specs.Fixed.{E9}
+use Rattle.fixed.specs.Fixed.{E9}
 use Rattle.reckon.proofs.Fitting.{mul-fits}
 use Rattle.reckon.proofs.SineTerms.{sine-term, term-falls, minus}
 use Rattle.reckon.proofs.sine.alternate.Reads as reads

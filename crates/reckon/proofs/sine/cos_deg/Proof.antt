@@ -2,7 +2,7 @@
 -- Assumes nothing.
 use borrow.Author.Needs.{needs}
 use borrow.Author.Tests.{le-leb, lt-leb}
-use Rattle.reckon.specs.Fixed.{cosFixed}
+use Rattle.fixed.specs.Fixed.{cosFixed}
 use Rattle.reckon.proofs.sine.cos_deg.Statement.{statement}
 use Rattle.reckon.proofs.sine.cos_deg.Tie as tie
 

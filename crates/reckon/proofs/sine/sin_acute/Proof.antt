@@ -4,7 +4,7 @@ use Prim.Native.Nat.{ℕ, _*_, _/_, _≤_}
 use native.Mathlib.Nat.{le-trans, mul-le-mul, mul-le-mul-right}
 use borrow.Author.Needs.{needs}
 use lib.Dec.{lit≤}
-use Rattle.reckon.specs.Fixed.{E9, sinAcute}
+use Rattle.fixed.specs.Fixed.{E9, sinAcute}
 use Rattle.exact.proofs.Quotients.{div-le}
 use Rattle.reckon.proofs.Fitting.{mul-fits}
 use Rattle.reckon.proofs.sine.sin_acute.Statement.{statement}

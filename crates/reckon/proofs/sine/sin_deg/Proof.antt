@@ -1,7 +1,7 @@
 -- `reckon::sine::sin_deg` meets its contract: past 90 degrees the sine is that of what is left to 180. Assumes nothing.
 use borrow.Author.Needs.{needs}
 use borrow.Author.Tests.{le-leb, lt-leb}
-use Rattle.reckon.specs.Fixed.{sinFixed}
+use Rattle.fixed.specs.Fixed.{sinFixed}
 use Rattle.reckon.proofs.sine.sin_deg.Statement.{statement}
 use Rattle.reckon.proofs.sine.sin_deg.Tie as tie
 

@@ -4,10 +4,10 @@ use mathlib.Core.Path.{ap}
 use native.Mathlib.Omega.{arith}
 use native.Mathlib.Nat.{mul-le-mul, mul-le-mul-left, div-mul-le-self, le-trans}
 use borrow.Author.Needs.{needs}
-use Rattle.rupture.specs.Fixed.{fromTopFixed}
+use Rattle.geometry.specs.Fixed.{fromTopFixed}
 use Rattle.exact.proofs.Quotients.{cancel}
-use Rattle.rupture.proofs.Lengths.{square-mono, root-le}
-use Rattle.rupture.proofs.PlanNear.{product-le}
+use Rattle.geometry.proofs.Lengths.{square-mono, root-le}
+use Rattle.geometry.proofs.PlanNear.{product-le}
 use Rattle.rupture.proofs.plan.from_top.Statement.{statement}
 use Rattle.rupture.proofs.plan.from_top.Tie as tie
 

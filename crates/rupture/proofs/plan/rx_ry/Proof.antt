@@ -4,8 +4,8 @@ use mathlib.Core.Path.{ap, _∙_}
 use native.Mathlib.Omega.{arith}
 use native.Mathlib.Nat.{le-trans, mul-le-mul, mul-le-mul-right, mul-comm, div-le-of-le-mul}
 use borrow.Author.Needs.{needs}
-use Rattle.rupture.specs.declared.plan.Place.{Place}
-use Rattle.rupture.proofs.PlanNear.{product-le, place-beside, place-beyond}
+use Rattle.geometry.specs.declared.Place.{Place}
+use Rattle.geometry.proofs.PlanNear.{product-le, place-beside, place-beyond}
 use Rattle.rupture.proofs.plan.rx_ry.Statement.{statement}
 use Rattle.rupture.proofs.plan.rx_ry.Tie as tie
 

@@ -4,8 +4,8 @@ use mathlib.Core.Path.{ap₂, _∙_}
 use native.Mathlib.Omega.{arith}
 use borrow.Author.Needs.{needs}
 use borrow.Author.Tests.{eq-eqb, ne-eqb}
-use Rattle.rupture.specs.Fixed.{siteFixed, placeFixed}
-use Rattle.rupture.proofs.Angles.{degrees, sine-is, cosine-is}
+use Rattle.geometry.specs.Fixed.{siteFixed, placeFixed}
+use Rattle.geometry.proofs.Angles.{degrees, sine-is, cosine-is}
 use Rattle.rupture.proofs.plan.site.Statement.{statement}
 use Rattle.rupture.proofs.plan.site.Tie as tie
 

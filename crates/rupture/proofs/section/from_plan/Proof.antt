@@ -3,8 +3,8 @@ use Prim.Native.Nat.{ℕ, _+_, _*_, _/_}
 use mathlib.Core.Path.{ap, ap₂, _∙_}
 use native.Mathlib.Omega.{arith}
 use borrow.Author.Needs.{needs}
-use Rattle.rupture.specs.Fixed.{rrupFixed, fromPlanFixed}
-use Rattle.rupture.proofs.Angles.{degrees, sine-is, cosine-is}
+use Rattle.geometry.specs.Fixed.{rrupFixed, fromPlanFixed}
+use Rattle.geometry.proofs.Angles.{degrees, sine-is, cosine-is}
 use Rattle.rupture.proofs.section.from_plan.Statement.{statement}
 use Rattle.rupture.proofs.section.from_plan.Tie as tie
 

@@ -1,7 +1,7 @@
 -- `rupture::section::off_edges` meets its contract in its three cases. Assumes nothing.
 use native.Mathlib.Omega.{arith}
 use borrow.Author.Needs.{needs}
-use Rattle.rupture.specs.Fixed.{offEdgesFixed}
+use Rattle.geometry.specs.Fixed.{offEdgesFixed}
 use Rattle.rupture.proofs.section.off_edges.Statement.{statement}
 use Rattle.rupture.proofs.section.off_edges.Tie as tie
 

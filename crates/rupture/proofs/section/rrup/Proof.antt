@@ -5,8 +5,8 @@ use native.Mathlib.Omega.{arith}
 use native.Mathlib.Nat.{mul-le-mul}
 use borrow.Author.Needs.{needs}
 use Rattle.exact.specs.Root.{root}
-use Rattle.rupture.specs.Fixed.{offPlaneFixed, rrupFixed}
-use Rattle.rupture.proofs.Lengths.{root-le}
+use Rattle.geometry.specs.Fixed.{offPlaneFixed, rrupFixed}
+use Rattle.geometry.proofs.Lengths.{root-le}
 use Rattle.rupture.proofs.section.rrup.Statement.{statement}
 use Rattle.rupture.proofs.section.rrup.Tie as tie
 

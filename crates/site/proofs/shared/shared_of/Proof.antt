@@ -8,7 +8,7 @@ use mir.Syntax.{w64}
 use mir.Val.{SFits}
 use mir.Facts.{toZ-ofZ}
 use Rattle.exact.proofs.Signed.{sfits-abs}
-use Rattle.reckon.specs.Fixed.{lnFixed}
+use Rattle.fixed.specs.Fixed.{lnFixed}
 use Rattle.model.specs.Fixed.{rockPGAFixed, siteCFixed}
 use Rattle.site.specs.Sharing.{sharedOf}
 use Rattle.model.proofs.Rock.{rock-top-fixed}

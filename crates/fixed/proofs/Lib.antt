@@ -1,0 +1,5 @@
+pub mod LnTwos
+pub mod SignedLaws
+pub mod LnNear
+pub mod ExpNear
+pub mod SineNear
