@@ -1,6 +1,6 @@
 // The sigmas (14 to 18), from variances in units of 10^-9. Each function equals a definition of model's
 // specs/Fixed.
-mod fixed;
+mod rows;
 
 use reckon::mul_div;
 use reckon::whole_root;
@@ -35,7 +35,7 @@ pub struct Settled {
 pub fn all_settled() -> [Settled; 24]
     ensures { λ r. ⌜ r ≡ map settledOf table3 ⌝ }
 {
-    fixed::ROWS
+    rows::ROWS
 }
 
 // The intra-event variance (15). On a linear site alpha is 0 and nothing is added to s².
