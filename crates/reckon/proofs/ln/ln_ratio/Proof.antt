@@ -6,11 +6,11 @@ use native.Mathlib.Nat.{le-trans, zero-add, add-zero}
 use native.Mathlib.Omega.{arith}
 use lib.Dec.{lit≤}
 use Rattle.exact.specs.Series.{lnTerms}
-use Rattle.fixed.specs.Fixed.{E10, lnRatio}
+use Rattle.fixed.specs.Fixed.{E10}
 use Rattle.exact.proofs.Quotients.{mul-small}
 use Rattle.reckon.proofs.Fitting.{mul-fits}
 use Rattle.exact.proofs.LnSeries.{below-third}
-use Rattle.reckon.proofs.LnTerms.{ln-term, ln-most}
+use Rattle.reckon.proofs.LnTerms.{ln-term, ln-most, ratio-is}
 use Rattle.reckon.proofs.ln.ln_ratio.Statement.{statement}
 use Rattle.reckon.proofs.ln.ln_ratio.Tie as tie
 
@@ -96,10 +96,9 @@ mul-result : tie.Need-mul-result Inv-loop μ-loop
 mul-result c = omega (arith, done _ _ _ _ _ _ (omega arith) (c .before .loop .inv), ln-most (z-le (c .before .before)))
 
 returns : tie.Need-returns Inv-loop μ-loop
-unfolding lnRatio
 returns c =
     let e = done _ _ _ _ _ _ (omega arith) (c .before .loop .inv) in
-    (ap (λ (s : ℕ). 2 * s) e, omega (arith, e, ln-most (z-le (c .before .before))))
+    (ap (λ (s : ℕ). 2 * s) e ∙ ratio-is _ _, omega (arith, e, ln-most (z-le (c .before .before))))
 
 pub ln-ratio-spec : {M : Type 1} → statement M
 ln-ratio-spec =
