@@ -18,8 +18,9 @@ use Rattle.rupture.specs.Geometry.{ruptureDistanceE}
 use Rattle.rupture.specs.Fixed.{InRange}
 use Rattle.rupture.proofs.Reported.{reported-near, reported-above}
 use Rattle.completion.specs.Figures.{figureOf, style, dip, width, zhyp, ztor, rrup, basinOf, z25}
-use Rattle.completion.specs.Refusals.{first, sourceRows, pathGiven, pathRows, refusal}
-use Rattle.completion.proofs.Rows.{first-both}
+use Rattle.refusals.specs.Order.{first}
+use Rattle.completion.specs.Refusals.{sourceRows, pathGiven, pathRows, refusal}
+use Rattle.refusals.proofs.Rows.{first-both}
 use Rattle.completion.proofs.Ranges.{source-range, source-given, top-range, path-range}
 use Rattle.completion.proofs.ExactlyWhen.{path-numbered, stages}
 

@@ -1,16 +1,22 @@
--- A request is refused with n exactly when row n of the table holds and no row before it does, and accepted exactly when none holds.
--- Assumes nothing.
-use Prim.Native.Nat.{ℕ, zero, suc}
-use mathlib.Core.Path.{_≡_, refl, sym, ap, _∙_}
+-- The table of refusals stands in document 01's order. A request is refused with n exactly when a row of n holds and no row before it
+-- does, and accepted exactly when none holds. Assumes nothing.
+use Prim.Native.Nat.{ℕ, zero, suc, _≤_, _<_}
+use mathlib.Core.Path.{_≡_, refl, sym, ap, subst, _∙_}
 use mathlib.Core.List.{_++_}
 use mathlib.Core.Logic.{_↔_}
 use lib.Dec.{T}
 use Rattle.request.specs.declared.Request.{Request}
 use Rattle.completion.specs.declared.Completion.{Completion}
 use Rattle.completion.specs.declared.Completion.the-variants as C
-use Rattle.completion.specs.Refusals.{first, sourceGiven, sourceRows, pathGiven, pathRows, siteGiven, siteRows, rows, refusal}
+use Rattle.refusals.specs.Order.{first, Fires, Silent, InOrder}
+use Rattle.refusals.specs.Order as No
+use Rattle.completion.specs.Refusals.{sourceGiven, sourceRows, pathGiven, pathRows, siteGiven, siteRows, rows, refusal}
 use Rattle.completion.specs.Answers.{completed, answer, completionOf, numberOf}
-use Rattle.completion.proofs.Rows.{numbered, first-both, Fires, fires-first, first-fires, Silent, silent-first, first-silent}
+use Rattle.refusals.proofs.Rows.{numbered, absent, first-most, first-absent, first-both, fires-first, first-fires, silent-first, first-silent}
+
+pub in-order : (r : Request) → InOrder (rows r)
+unfolding rows sourceRows sourceGiven pathRows pathGiven siteRows siteGiven
+in-order r = tt
 
 -- an answer's number is the refusal's
 answer-number : (n : ℕ) (r : Request) → numberOf (answer n r) ≡ n
@@ -38,6 +44,21 @@ accepted-by r e = ap (λ (k : ℕ). answer k r) e
 pub accepted-refusal : (r : Request) → completionOf r ≡ C.Done (completed r) → refusal r ≡ 0
 unfolding numberOf
 accepted-refusal r e = sym (number-is r) ∙ ap numberOf e
+
+-- ---- the numbers
+-- none is above that of the last row
+pub number-most : (r : Request) → refusal r ≤ No.basin
+unfolding refusal rows sourceRows sourceGiven pathRows pathGiven siteRows siteGiven
+number-most r = first-most No.basin (rows r) tt
+
+pub completion-most : (r : Request) (n : ℕ) → completionOf r ≡ C.Refused n → n ≤ No.basin
+unfolding numberOf
+completion-most r n e = subst (λ (m : ℕ). m ≤ No.basin) (sym (number-is r) ∙ ap numberOf e) (number-most r)
+
+-- a number that no row has is never given
+pub completion-absent : (r : Request) (n : ℕ) → 0 < n → T (absent n (rows r)) → completionOf r ≡ C.Refused n → ⊥
+unfolding refusal numberOf
+completion-absent r n h t e = first-absent n (rows r) h t (sym (number-is r) ∙ ap numberOf e)
 
 -- every row has its number
 pub rows-numbered : (r : Request) → T (numbered (rows r))

@@ -1,4 +1,3 @@
-pub mod Rows
 pub mod Ranges
 pub mod ExactlyWhen
 pub mod EstimatesNear

@@ -20,9 +20,10 @@ use Rattle.request.specs.Styles.{topMagnitude}
 use Rattle.estimate.proofs.Figures as F
 use Rattle.estimate.proofs.Ranges.{dipOf-range, hypocentre-top}
 use Rattle.estimate.proofs.WidthNear.{widthFixed-near}
-use Rattle.completion.specs.Figures.{figureOf, given, style, dip, width, zhypOf, zhyp, ztor, rrup, z25}
-use Rattle.completion.specs.Refusals.{first, sourceGiven, sourceRows, pathGiven, pathRows, siteGiven, aboveRupture, tooShort}
-use Rattle.completion.proofs.Rows.{clear, first-both}
+use Rattle.completion.specs.Figures.{figureOf, style, dip, width, zhypOf, zhyp, ztor, rrup, z25}
+use Rattle.refusals.specs.Order.{first}
+use Rattle.completion.specs.Refusals.{sourceGiven, sourceRows, pathGiven, pathRows, siteGiven, aboveRupture, tooShort}
+use Rattle.refusals.proofs.Rows.{clear, first-both}
 
 -- ---- one field
 both : (a b : Bool) → a && b ≡ true → (a ≡ true) × (b ≡ true)
@@ -97,12 +98,12 @@ zhyp-most Blank s m h k = hypocentre-top s m h
 pub source-range : (r : Request) → first (sourceGiven r) ≡ 0 → SourceRange r
 unfolding sourceGiven dip width zhyp
 source-range r e =
-    let c1 = clear (1, not (within (r .rake) (negsuc 179) (pos 180))) _ tt e in
-    let c2 = clear (2, not (within (r .m) (pos 400) (topMagnitude (style r)))) _ tt (c1 .1) in
-    let c3 = clear (3, not (within (r .vs30) (pos 150) (pos 1500))) _ tt (c2 .1) in
-    let c4 = clear (4, not (allowed (r .dip) (pos 15) (pos 90))) _ tt (c3 .1) in
-    let c5 = clear (5, not (allowed (r .w) (pos 1) (pos 100000))) _ tt (c4 .1) in
-    let c6 = clear (6, not (allowed (r .zhyp) (pos 0) (pos 30000))) _ tt (c5 .1) in
+    let c1 = clear _ _ e tt in
+    let c2 = clear _ _ (c1 .1) tt in
+    let c3 = clear _ _ (c2 .1) tt in
+    let c4 = clear _ _ (c3 .1) tt in
+    let c5 = clear _ _ (c4 .1) tt in
+    let c6 = clear _ _ (c5 .1) tt in
     let m = magnitude (r .m) (style r) (not-false _ (c2 .0)) in
     let v = within-size (r .vs30) 150 1500 (not-false _ (c3 .0)) in
     let d = figure-range (r .dip) _ 15 90 (not-false _ (c4 .0)) (dipOf-range (style r) .0) (dipOf-range (style r) .1) in
@@ -127,12 +128,12 @@ source-range r e =
 pub top-range : (r : Request) → first (sourceRows r) ≡ 0 → ztor r .value ≤ 15000
 unfolding sourceRows sourceGiven
 top-range r e =
-    let t = first-both (sourceGiven r) ((7, ltb 15000 (ztor r .value)) ∷ []) tt e in
-    ltb-false 15000 (ztor r .value) (clear (7, ltb 15000 (ztor r .value)) [] tt (t .1) .0)
+    let t = first-both (sourceGiven r) _ tt e in
+    ltb-false 15000 (ztor r .value) (clear _ [] (t .1) tt .0)
 
 pub source-given : (r : Request) → first (sourceRows r) ≡ 0 → first (sourceGiven r) ≡ 0
 unfolding sourceRows sourceGiven
-source-given r e = first-both (sourceGiven r) ((7, ltb 15000 (ztor r .value)) ∷ []) tt e .0
+source-given r e = first-both (sourceGiven r) _ tt e .0
 
 -- ---- the path
 pub record PathRange (r : Request) : Type 0 where
@@ -143,10 +144,10 @@ pub record PathRange (r : Request) : Type 0 where
 pub path-range : (r : Request) → first (pathGiven r) ≡ 0 → PathRange r
 unfolding pathGiven
 path-range r e =
-    let c8 = clear (8, not (within (r .rjb) (pos 0) (pos 200000))) _ tt e in
-    let c9 = clear (9, not (within (r .azimuth) (negsuc 179) (pos 180))) _ tt (c8 .1) in
-    let c10 = clear (10, aboveRupture r) _ tt (c9 .1) in
-    let c11 = clear (11, not (allowed (r .rrup) (pos 0) (pos 200000))) _ tt (c10 .1) in
+    let c8 = clear _ _ e tt in
+    let c9 = clear _ _ (c8 .1) tt in
+    let c10 = clear _ _ (c9 .1) tt in
+    let c11 = clear _ _ (c10 .1) tt in
     record {
       rjb-high = within-size (r .rjb) 0 200000 (not-false _ (c8 .0)) .1;
       azimuth-size = signed-size (r .azimuth) (not-false _ (c9 .0));
@@ -155,7 +156,7 @@ path-range r e =
 
 pub path-given : (r : Request) → first (pathRows r) ≡ 0 → first (pathGiven r) ≡ 0
 unfolding pathRows pathGiven
-path-given r e = first-both (pathGiven r) ((11, ltb 200000 (rrup r .value)) ∷ (12, tooShort r) ∷ []) tt e .0
+path-given r e = first-both (pathGiven r) _ tt e .0
 
 -- ---- the site
 pub record SiteRange (r : Request) : Type 0 where
@@ -165,8 +166,8 @@ pub record SiteRange (r : Request) : Type 0 where
 pub site-range : (r : Request) → first (siteGiven r) ≡ 0 → SiteRange r
 unfolding siteGiven
 site-range r e =
-    let c1 = clear (13, not (allowed (r .z10) (pos 0) (pos 10000))) _ tt e in
-    let c2 = clear (13, not (allowed (r .z15) (pos 0) (pos 10000))) _ tt (c1 .1) in
+    let c1 = clear _ _ e tt in
+    let c2 = clear _ _ (c1 .1) tt in
     record {
       z10-given = allowed-size (r .z10) 0 10000 (not-false _ (c1 .0));
       z15-given = allowed-size (r .z15) 0 10000 (not-false _ (c2 .0));

@@ -1,6 +1,7 @@
 -- A completed request sent again with its completed figures given is accepted, with the same figures and nothing estimated. Each row
--- of the table is silent on it: the figures are in their ranges, which are the same for given and completed ones; refusal 10 reads a
--- blank RRUP only; and a completed RRUP is not below the root of RJB² + ZTOR², so refusal 12 is not given. Assumes nothing.
+-- of the table is silent on it: the figures are in their ranges, which are the same for given and completed ones; a site is refused
+-- as above the rupture only where RRUP is blank; and a completed RRUP is not below the root of RJB² + ZTOR², so it is not too short.
+-- Assumes nothing.
 use Prim.Native.Nat.{ℕ, _+_, _*_, _≤_}
 use mathlib.Core.Path.{_≡_, refl, sym, ap, _∙_}
 use mathlib.Core.Bool.{Bool, true, false, not, _&&_}
@@ -17,11 +18,12 @@ use Rattle.request.specs.declared.Request.{Request}
 use Rattle.request.specs.Fields.{within, allowed, isBlank, sizeOf}
 use Rattle.request.specs.Styles.{topMagnitude}
 use Rattle.completion.specs.declared.Completion.the-variants as C
-use Rattle.completion.specs.Figures.{figureOf, given, style, dip, width, ztor, rrup, z25}
-use Rattle.completion.specs.Refusals.{first, sourceGiven, sourceRows, aboveRupture, pathGiven, tooShort, pathRows, siteGiven, siteRows, rows, refusal}
+use Rattle.completion.specs.Figures.{figureOf, figureGiven, style, dip, width, ztor, rrup, z25}
+use Rattle.refusals.specs.Order.{first}
+use Rattle.completion.specs.Refusals.{sourceGiven, sourceRows, aboveRupture, pathGiven, tooShort, pathRows, siteGiven, siteRows, rows, refusal}
 use Rattle.completion.specs.Answers.{completed, completionOf}
 use Rattle.completion.specs.SentBack.{sentBack, allGiven}
-use Rattle.completion.proofs.Rows.{clear, nothing, skip, three, first-both}
+use Rattle.refusals.proofs.Rows.{clear, nothing, skip, three, first-both}
 use Rattle.completion.proofs.Ranges.{SourceRange, source-range, source-given, top-range}
 use Rattle.completion.proofs.ExactlyWhen.{source-numbered, path-numbered, all-path-numbered, Stages, stages, accepted-refusal, accepted-by}
 use Rattle.completion.proofs.EstimatesNear.{rrup-above}
@@ -33,7 +35,7 @@ in-range n a b l h = rw (le-leb a n l, le-leb n b h)
 
 -- of a given field
 given-value : (f : Field) (v : ℤ) (e : ℕ) → f ≡ Given v → figureOf f e .value ≡ sizeOf f
-unfolding figureOf given
+unfolding figureOf figureGiven
 given-value f v e h = rw h
 
 given-test : (f : Field) (v : ℤ) (b : Bool) → f ≡ Given v → not (isBlank f) && b ≡ false → b ≡ false
@@ -44,7 +46,7 @@ rrup-given : (r : Request) (v : ℤ) → r .rrup ≡ Given v → rrup r .value �
 unfolding rrup
 rrup-given r v h = given-value (r .rrup) v _ h
 
--- refusal 10 reads a blank RRUP only
+-- a site is refused as above the rupture only where RRUP is blank
 not-above : (r : Request) → aboveRupture (sentBack r) ≡ false
 unfolding aboveRupture sentBack
 not-above r = refl
@@ -62,38 +64,38 @@ module _ (r : Request) (accepted : refusal r ≡ 0) where
       × (not (within (r .vs30) (pos 150) (pos 1500)) ≡ false) × (not (allowed (r .zhyp) (pos 0) (pos 30000)) ≡ false)
   unfolding sourceGiven
   kept =
-      let c1 = clear (1, not (within (r .rake) (negsuc 179) (pos 180))) _ tt (source-given r (at .source)) in
-      let c2 = clear (2, not (within (r .m) (pos 400) (topMagnitude (style r)))) _ tt (c1 .1) in
-      let c3 = clear (3, not (within (r .vs30) (pos 150) (pos 1500))) _ tt (c2 .1) in
-      let c4 = clear (4, not (allowed (r .dip) (pos 15) (pos 90))) _ tt (c3 .1) in
-      let c5 = clear (5, not (allowed (r .w) (pos 1) (pos 100000))) _ tt (c4 .1) in
-      let c6 = clear (6, not (allowed (r .zhyp) (pos 0) (pos 30000))) _ tt (c5 .1) in
+      let c1 = clear _ _ (source-given r (at .source)) tt in
+      let c2 = clear _ _ (c1 .1) tt in
+      let c3 = clear _ _ (c2 .1) tt in
+      let c4 = clear _ _ (c3 .1) tt in
+      let c5 = clear _ _ (c4 .1) tt in
+      let c6 = clear _ _ (c5 .1) tt in
       (c1 .0, c2 .0, c3 .0, c6 .0)
 
   source-back : first (sourceRows (sentBack r)) ≡ 0
   unfolding sourceRows sourceGiven sentBack style
   source-back =
-      skip 1 _ _ (kept .0)
-      (skip 2 _ _ (kept .1)
-      (skip 3 _ _ (kept .2)
-      (skip 4 _ _ (in-range (dip r .value) 15 90 (range .dip-low) (range .dip-high))
-      (skip 5 _ _ (in-range (width r .value) 1 100000 (range .w-low) (range .w-high))
-      (skip 6 _ _ (kept .3)
-      (skip 7 _ _ (in-range (ztor r .value) 0 15000 (omega arith) (top-range r (at .source)))
-      (skip 7 _ _ (le-ltb 15000 (ztor r .value) (top-range r (at .source))) nothing)))))))
+      skip _ _ _ (kept .0)
+      (skip _ _ _ (kept .1)
+      (skip _ _ _ (kept .2)
+      (skip _ _ _ (in-range (dip r .value) 15 90 (range .dip-low) (range .dip-high))
+      (skip _ _ _ (in-range (width r .value) 1 100000 (range .w-low) (range .w-high))
+      (skip _ _ _ (kept .3)
+      (skip _ _ _ (in-range (ztor r .value) 0 15000 (omega arith) (top-range r (at .source)))
+      (skip _ _ _ (le-ltb 15000 (ztor r .value) (top-range r (at .source))) nothing)))))))
 
   path-rows : (first (pathGiven r) ≡ 0) × (ltb 200000 (rrup r .value) ≡ false) × (tooShort r ≡ false)
   unfolding pathRows
   path-rows =
-      let t = first-both (pathGiven r) ((11, ltb 200000 (rrup r .value)) ∷ (12, tooShort r) ∷ []) (path-numbered r) (at .path) in
-      let c11 = clear (11, ltb 200000 (rrup r .value)) ((12, tooShort r) ∷ []) tt (t .1) in
-      (t .0, c11 .0, clear (12, tooShort r) [] tt (c11 .1) .0)
+      let t = first-both (pathGiven r) _ (path-numbered r) (at .path) in
+      let c11 = clear _ _ (t .1) tt in
+      (t .0, c11 .0, clear _ [] (c11 .1) tt .0)
 
   kept-path : (not (within (r .rjb) (pos 0) (pos 200000)) ≡ false) × (not (within (r .azimuth) (negsuc 179) (pos 180)) ≡ false)
   unfolding pathGiven
   kept-path =
-      let c8 = clear (8, not (within (r .rjb) (pos 0) (pos 200000))) _ tt (path-rows .0) in
-      (c8 .0, clear (9, not (within (r .azimuth) (negsuc 179) (pos 180))) _ tt (c8 .1) .0)
+      let c8 = clear _ _ (path-rows .0) tt in
+      (c8 .0, clear _ _ (c8 .1) tt .0)
 
   pub rrup-high : rrup r .value ≤ 200000
   rrup-high = ltb-false 200000 (rrup r .value) (path-rows .1)
@@ -120,30 +122,30 @@ module _ (r : Request) (accepted : refusal r ≡ 0) where
   path-back : first (pathRows (sentBack r)) ≡ 0
   unfolding pathRows pathGiven sentBack
   path-back =
-      skip 8 _ _ (kept-path .0)
-      (skip 9 _ _ (kept-path .1)
-      (skip 10 _ _ (not-above r)
-      (skip 11 _ _ (in-range (rrup r .value) 0 200000 (omega arith) rrup-high)
-      (skip 11 _ _ (le-ltb 200000 (rrup r .value) rrup-high)
-      (skip 12 _ _ not-short nothing)))))
+      skip _ _ _ (kept-path .0)
+      (skip _ _ _ (kept-path .1)
+      (skip _ _ _ (not-above r)
+      (skip _ _ _ (in-range (rrup r .value) 0 200000 (omega arith) rrup-high)
+      (skip _ _ _ (le-ltb 200000 (rrup r .value) rrup-high)
+      (skip _ _ _ not-short nothing)))))
 
   pub site-rows :
       (not (allowed (r .z10) (pos 0) (pos 10000)) ≡ false) × (not (allowed (r .z15) (pos 0) (pos 10000)) ≡ false)
       × (z25 r .value ≤ 10000)
   unfolding siteRows siteGiven
   site-rows =
-      let c1 = clear (13, not (allowed (r .z10) (pos 0) (pos 10000))) _ tt (at .site) in
-      let c2 = clear (13, not (allowed (r .z15) (pos 0) (pos 10000))) _ tt (c1 .1) in
-      let c3 = clear (13, not (allowed (r .z25) (pos 0) (pos 10000))) _ tt (c2 .1) in
-      (c1 .0, c2 .0, ltb-false 10000 (z25 r .value) (clear (13, ltb 10000 (z25 r .value)) [] tt (c3 .1) .0))
+      let c1 = clear _ _ (at .site) tt in
+      let c2 = clear _ _ (c1 .1) tt in
+      let c3 = clear _ _ (c2 .1) tt in
+      (c1 .0, c2 .0, ltb-false 10000 (z25 r .value) (clear _ [] (c3 .1) tt .0))
 
   site-back : first (siteRows (sentBack r)) ≡ 0
   unfolding siteRows siteGiven sentBack
   site-back =
-      skip 13 _ _ (site-rows .0)
-      (skip 13 _ _ (site-rows .1)
-      (skip 13 _ _ (in-range (z25 r .value) 0 10000 (omega arith) (site-rows .2))
-      (skip 13 _ _ (le-ltb 10000 (z25 r .value) (site-rows .2)) nothing)))
+      skip _ _ _ (site-rows .0)
+      (skip _ _ _ (site-rows .1)
+      (skip _ _ _ (in-range (z25 r .value) 0 10000 (omega arith) (site-rows .2))
+      (skip _ _ _ (le-ltb 10000 (z25 r .value) (site-rows .2)) nothing)))
 
   accepted-back : refusal (sentBack r) ≡ 0
   unfolding refusal rows

@@ -15,7 +15,8 @@ use Rattle.completion.specs.declared.Completed.{Completed}
 use Rattle.completion.specs.declared.Completion.{Completion}
 use Rattle.completion.specs.declared.Completion.the-variants as C
 use Rattle.completion.specs.Figures.{dip, width, ztor, rrup, z25}
-use Rattle.completion.specs.Refusals.{first, sourceRows, pathRows, siteRows, refusal}
+use Rattle.refusals.specs.Order.{first}
+use Rattle.completion.specs.Refusals.{sourceRows, pathRows, siteRows, refusal}
 
 -- ---- the stages
 unfoldable pub sourceFigures : Request → Source
@@ -27,21 +28,21 @@ unfolding sourceFigures
 sourceAnswer zero r = S.Known (sourceFigures r)
 sourceAnswer (suc n) r = S.Refused (suc n)
 
-unfoldable pub sourceOf : Request → SourceAnswer
+unfoldable pub sourceAnswerOf : Request → SourceAnswer
 unfolding sourceAnswer first sourceRows
-sourceOf r = sourceAnswer (first (sourceRows r)) r
+sourceAnswerOf r = sourceAnswer (first (sourceRows r)) r
 
 unfoldable pub figureAnswer : ℕ → Figure → FigureAnswer
 figureAnswer zero f = F.Known f
 figureAnswer (suc n) f = F.Refused (suc n)
 
-unfoldable pub pathOf : Request → FigureAnswer
+unfoldable pub pathAnswerOf : Request → FigureAnswer
 unfolding figureAnswer first pathRows rrup
-pathOf r = figureAnswer (first (pathRows r)) (rrup r)
+pathAnswerOf r = figureAnswer (first (pathRows r)) (rrup r)
 
-unfoldable pub siteOf : Request → FigureAnswer
+unfoldable pub siteAnswerOf : Request → FigureAnswer
 unfolding figureAnswer first siteRows z25
-siteOf r = figureAnswer (first (siteRows r)) (z25 r)
+siteAnswerOf r = figureAnswer (first (siteRows r)) (z25 r)
 
 -- ---- the whole
 unfoldable pub completed : Request → Completed

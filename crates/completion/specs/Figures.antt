@@ -15,14 +15,14 @@ use Rattle.rupture.specs.Fixed.{ruptureDistance}
 use Rattle.completion.specs.declared.figure.Figure.{Figure}
 
 -- the figure that was given
-unfoldable pub given : Field → Figure
+unfoldable pub figureGiven : Field → Figure
 unfolding sizeOf
-given f = record { value = sizeOf f; estimated = false }
+figureGiven f = record { value = sizeOf f; estimated = false }
 
 -- the figure of a field, estimated where it is blank
 unfoldable pub figureOf : Field → ℕ → Figure
-unfolding given
-figureOf (Given v) estimate = given (Given v)
+unfolding figureGiven
+figureOf (Given v) estimate = figureGiven (Given v)
 figureOf Blank estimate = record { value = estimate; estimated = true }
 
 -- ---- the source

@@ -1,6 +1,6 @@
 // A figure that a blank field may stand for.
 ghost use mathlib.Core.Path.{_≡_};
-ghost use Rattle.completion.specs.Figures.{given};
+ghost use Rattle.completion.specs.Figures.{figureGiven};
 use request::Field;
 use request::size_of;
 
@@ -18,7 +18,7 @@ pub enum FigureAnswer {
 
 // The figure that was given.
 pub fn given_figure(f: Field) -> Figure
-    ensures { λ r. ⌜ r ≡ given f ⌝ }
+    ensures { λ r. ⌜ r ≡ figureGiven f ⌝ }
 {
     Figure {
         value: size_of(f),

@@ -15,8 +15,9 @@ ghost use mathlib.Core.Path.{_≡_};
 ghost use Prim.Native.Nat.{_≤_};
 ghost use Rattle.request.specs.Fields.{sizeOf};
 ghost use Rattle.completion.specs.Figures.{dip, ztor, rrup};
-ghost use Rattle.completion.specs.Refusals.{first, sourceRows, aboveRupture, pathGiven, tooShort};
-ghost use Rattle.completion.specs.Answers.{sourceFigures, pathOf};
+ghost use Rattle.refusals.specs.Order.{first};
+ghost use Rattle.completion.specs.Refusals.{sourceRows, aboveRupture, pathGiven, tooShort};
+ghost use Rattle.completion.specs.Answers.{sourceFigures, pathAnswerOf};
 
 // Whether the site is above the rupture, whose completed dip is d: no distance follows from RJB there.
 fn is_above_rupture(r: Request, d: u64) -> bool
@@ -45,18 +46,18 @@ fn path_refusal(r: Request, d: u64) -> u32
 {
     let rjb = r.rjb;
     if !is_within(rjb, 0, 200000) {
-        return 8;
+        return refusals::RJB;
     }
     let azimuth = r.azimuth;
     if !is_within(azimuth, -180, 180) {
-        return 9;
+        return refusals::AZIMUTH;
     }
     if is_above_rupture(r, d) {
-        return 10;
+        return refusals::ABOVE;
     }
     let rrup = r.rrup;
     if !is_allowed(rrup, 0, 200000) {
-        return 11;
+        return refusals::RRUP;
     }
     0
 }
@@ -98,10 +99,10 @@ fn known_path(r: Request, s: Source) -> Figure
     }
 }
 
-// RRUP, or the first of the refusals 8 to 12.
+// RRUP, or the first refusal of the path.
 pub fn complete_path(r: Request, s: Source) -> FigureAnswer
     requires { ⌜ (s ≡ sourceFigures r) × (first (sourceRows r) ≡ 0) ⌝ }
-    ensures { λ a. ⌜ a ≡ pathOf r ⌝ }
+    ensures { λ a. ⌜ a ≡ pathAnswerOf r ⌝ }
 {
     let dip = s.dip;
     let n = path_refusal(r, dip.value);
@@ -110,11 +111,11 @@ pub fn complete_path(r: Request, s: Source) -> FigureAnswer
     }
     let rrup = known_path(r, s);
     if 200000 < rrup.value {
-        return FigureAnswer::Refused(11);
+        return FigureAnswer::Refused(refusals::RRUP);
     }
     let ztor = s.ztor;
     if is_too_short(r, ztor.value) {
-        return FigureAnswer::Refused(12);
+        return FigureAnswer::Refused(refusals::TOO_SHORT);
     }
     FigureAnswer::Known(rrup)
 }

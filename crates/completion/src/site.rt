@@ -13,8 +13,9 @@ ghost use mathlib.Core.Path.{_≡_};
 ghost use Prim.Native.Nat.{_≤_};
 ghost use Rattle.request.specs.Fields.{sizeOf};
 ghost use Rattle.completion.specs.Figures.{figureOf, basinOf, z25};
-ghost use Rattle.completion.specs.Refusals.{first, sourceRows, siteGiven};
-ghost use Rattle.completion.specs.Answers.{siteOf};
+ghost use Rattle.refusals.specs.Order.{first};
+ghost use Rattle.completion.specs.Refusals.{sourceRows, siteGiven};
+ghost use Rattle.completion.specs.Answers.{siteAnswerOf};
 
 // The refusal that reads a given depth of the site.
 fn site_refusal(r: Request) -> u32
@@ -22,15 +23,15 @@ fn site_refusal(r: Request) -> u32
 {
     let z10 = r.z10;
     if !is_allowed(z10, 0, 10000) {
-        return 13;
+        return refusals::BASIN;
     }
     let z15 = r.z15;
     if !is_allowed(z15, 0, 10000) {
-        return 13;
+        return refusals::BASIN;
     }
     let z25 = r.z25;
     if !is_allowed(z25, 0, 10000) {
-        return 13;
+        return refusals::BASIN;
     }
     0
 }
@@ -67,10 +68,10 @@ fn known_site(r: Request) -> Figure
     }
 }
 
-// Z2.5, or refusal 13.
+// Z2.5, or the refusal of the basin.
 pub fn complete_site(r: Request) -> FigureAnswer
     requires { ⌜ first (sourceRows r) ≡ 0 ⌝ }
-    ensures { λ a. ⌜ a ≡ siteOf r ⌝ }
+    ensures { λ a. ⌜ a ≡ siteAnswerOf r ⌝ }
 {
     let n = site_refusal(r);
     if n != 0 {
@@ -78,7 +79,7 @@ pub fn complete_site(r: Request) -> FigureAnswer
     }
     let z25 = known_site(r);
     if 10000 < z25.value {
-        return FigureAnswer::Refused(13);
+        return FigureAnswer::Refused(refusals::BASIN);
     }
     FigureAnswer::Known(z25)
 }

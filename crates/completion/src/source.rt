@@ -19,8 +19,9 @@ ghost use Rattle.request.specs.Fields.{sizeOf};
 ghost use Rattle.estimate.specs.Rules.{dipOf, hypocentre};
 ghost use Rattle.estimate.specs.Fixed.{widthFixed, topFixed};
 ghost use Rattle.completion.specs.Figures.{figureOf, zhypOf};
-ghost use Rattle.completion.specs.Refusals.{first, sourceGiven};
-ghost use Rattle.completion.specs.Answers.{sourceFigures, sourceOf};
+ghost use Rattle.refusals.specs.Order.{first};
+ghost use Rattle.completion.specs.Refusals.{sourceGiven};
+ghost use Rattle.completion.specs.Answers.{sourceFigures, sourceAnswerOf};
 
 // The completed figures of the source.
 pub struct Source {
@@ -41,31 +42,31 @@ fn source_refusal(r: Request) -> u32
 {
     let rake = r.rake;
     if !is_within(rake, -180, 180) {
-        return 1;
+        return refusals::RAKE;
     }
     let m = r.m;
     if !is_magnitude(m, style_by_rake(rake)) {
-        return 2;
+        return refusals::MAGNITUDE;
     }
     let vs30 = r.vs30;
     if !is_within(vs30, 150, 1500) {
-        return 3;
+        return refusals::VS30;
     }
     let dip = r.dip;
     if !is_allowed(dip, 15, 90) {
-        return 4;
+        return refusals::DIP;
     }
     let w = r.w;
     if !is_allowed(w, 1, 100000) {
-        return 5;
+        return refusals::WIDTH;
     }
     let zhyp = r.zhyp;
     if !is_allowed(zhyp, 0, 30000) {
-        return 6;
+        return refusals::HYPOCENTRE;
     }
     let ztor = r.ztor;
     if !is_allowed(ztor, 0, 15000) {
-        return 7;
+        return refusals::TOP;
     }
     0
 }
@@ -143,9 +144,9 @@ fn known_source(r: Request) -> Source
     }
 }
 
-// The source's figures, or the first of the refusals 1 to 7.
+// The source's figures, or the first refusal of the source.
 pub fn complete_source(r: Request) -> SourceAnswer
-    ensures { λ a. ⌜ a ≡ sourceOf r ⌝ }
+    ensures { λ a. ⌜ a ≡ sourceAnswerOf r ⌝ }
 {
     let n = source_refusal(r);
     if n != 0 {
@@ -154,7 +155,7 @@ pub fn complete_source(r: Request) -> SourceAnswer
     let s = known_source(r);
     let ztor = s.ztor;
     if 15000 < ztor.value {
-        return SourceAnswer::Refused(7);
+        return SourceAnswer::Refused(refusals::TOP);
     }
     SourceAnswer::Known(s)
 }

@@ -1,5 +1,5 @@
 -- The value is what `size_of` ensures. Assumes nothing.
-use Rattle.completion.specs.Figures.{given}
+use Rattle.completion.specs.Figures.{figureGiven}
 use borrow.Author.Needs.{needs}
 use Rattle.completion.proofs.figure.given_figure.Statement.{statement}
 use Rattle.completion.proofs.figure.given_figure.Tie as tie
@@ -8,7 +8,7 @@ size-of-requires : tie.Need-size-of-requires
 size-of-requires c κs = search needs
 
 returns : tie.Need-returns
-unfolding given
+unfolding figureGiven
 returns c = rw (c .size-of .ensures)
 
 pub given-figure-spec : {M : Type 1} → statement M

@@ -4,7 +4,8 @@ use mathlib.Core.Path.{_≡_, refl, sym, ap, _∙_}
 use native.Mathlib.Omega.{arith}
 use Rattle.completion.specs.declared.figure.FigureAnswer.the-variants as F
 use Rattle.completion.specs.Figures.{rrup}
-use Rattle.completion.specs.Refusals.{first, pathGiven}
+use Rattle.refusals.specs.Order.{first}
+use Rattle.completion.specs.Refusals.{pathGiven}
 use Rattle.completion.specs.Answers.{sourceFigures}
 use Rattle.completion.proofs.Ranges.{top-range, path-range}
 use Rattle.completion.proofs.Staged.{path-refused, path-far, path-short, path-known}

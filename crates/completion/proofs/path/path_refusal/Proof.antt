@@ -2,7 +2,8 @@
 use borrow.Author.Needs.{needs}
 use mathlib.Core.Path.{sym, _∙_}
 use Rattle.request.proofs.Tests.{wrong, right}
-use Rattle.completion.specs.Refusals.{first, pathGiven}
+use Rattle.refusals.specs.Order.{first}
+use Rattle.completion.specs.Refusals.{pathGiven}
 use Rattle.completion.proofs.path.path_refusal.Statement.{statement}
 use Rattle.completion.proofs.path.path_refusal.Tie as tie
 

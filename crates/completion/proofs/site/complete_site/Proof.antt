@@ -5,7 +5,8 @@ use mathlib.Core.Path.{_≡_, sym, ap, _∙_}
 use native.Mathlib.Omega.{arith}
 use Rattle.completion.specs.declared.figure.FigureAnswer.the-variants as F
 use Rattle.completion.specs.Figures.{z25}
-use Rattle.completion.specs.Refusals.{first, siteGiven}
+use Rattle.refusals.specs.Order.{first}
+use Rattle.completion.specs.Refusals.{siteGiven}
 use Rattle.completion.proofs.Staged.{site-refused, site-deep, site-known}
 use Rattle.completion.proofs.site.complete_site.Statement.{statement}
 use Rattle.completion.proofs.site.complete_site.Tie as tie

@@ -1,7 +1,8 @@
 -- The chain of tests is the list of rows: what each call ensures decides its row. Assumes nothing.
 use borrow.Author.Needs.{needs}
 use Rattle.request.proofs.Tests.{wrong, right}
-use Rattle.completion.specs.Refusals.{first, siteGiven}
+use Rattle.refusals.specs.Order.{first}
+use Rattle.completion.specs.Refusals.{siteGiven}
 use Rattle.completion.proofs.site.site_refusal.Statement.{statement}
 use Rattle.completion.proofs.site.site_refusal.Tie as tie
 

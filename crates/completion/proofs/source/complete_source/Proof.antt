@@ -4,7 +4,8 @@ use mathlib.Core.Path.{_≡_, sym, ap, _∙_}
 use native.Mathlib.Omega.{arith}
 use Rattle.completion.specs.declared.source.SourceAnswer.the-variants as S
 use Rattle.completion.specs.Figures.{ztor}
-use Rattle.completion.specs.Refusals.{first, sourceGiven}
+use Rattle.refusals.specs.Order.{first}
+use Rattle.completion.specs.Refusals.{sourceGiven}
 use Rattle.completion.specs.Answers.{sourceFigures}
 use Rattle.completion.proofs.Staged.{source-refused, source-deep, source-clear, source-known}
 use Rattle.completion.proofs.source.complete_source.Statement.{statement}

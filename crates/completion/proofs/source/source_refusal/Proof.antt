@@ -7,7 +7,8 @@ use Rattle.request.specs.Fields.{within}
 use Rattle.request.specs.Styles.{topMagnitude}
 use Rattle.request.proofs.Tests.{wrong, right}
 use Rattle.completion.specs.Figures.{style}
-use Rattle.completion.specs.Refusals.{first, sourceGiven}
+use Rattle.refusals.specs.Order.{first}
+use Rattle.completion.specs.Refusals.{sourceGiven}
 use Rattle.completion.proofs.source.source_refusal.Statement.{statement}
 use Rattle.completion.proofs.source.source_refusal.Tie as tie
 

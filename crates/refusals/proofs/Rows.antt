@@ -1,39 +1,68 @@
--- What `first` says of a list of rows: the number of the first that holds, exactly. Assumes nothing.
-use Prim.Native.Nat.{ℕ, suc}
+-- What `first` says of a list of rows: the number of the first that holds, exactly, and none that no row has. Assumes nothing.
+use Prim.Native.Nat.{ℕ, suc, _≤_, _<_}
 use mathlib.Core.Path.{_≡_, refl, sym, subst, _∙_}
-use mathlib.Core.Bool.{Bool, true, false, _&&_}
+use mathlib.Core.Bool.{Bool, true, false, not, _&&_}
 use mathlib.Core.List.{[], _∷_, _++_}
 use native.Mathlib.Omega.{arith}
-use lib.Dec.{T, leb, leb→le}
+use lib.Dec.{T, leb, leb→le, le→leb, eqb}
 use lib.Ieee.Fits.{and-l, and-r}
-use Rattle.completion.specs.Refusals.{Rows, first}
+use borrow.Author.Tests.{eq-eqb, ne-eqb}
+use Rattle.refusals.specs.Order.{Rows, first, Fires, here, later, Silent, empty, quiet}
+
+-- ---- a test of every number
+abbrev pub every : (ℕ → Bool) → Rows → Bool
+every p [] = true
+every p (row ∷ rows) = p (row .0) && every p rows
+
+-- what 0 and every row's number pass, the first's number passes
+pub first-every : (p : ℕ → Bool) (rows : Rows) → T (p 0) → T (every p rows) → T (p (first rows))
+unfolding first
+first-every p [] z t = z
+first-every p ((n, true) ∷ rest) z t = and-l (p n) (every p rest) t
+first-every p ((n, false) ∷ rest) z t = first-every p rest z (and-r (p n) (every p rest) t)
 
 -- every row has a number, from 1 up
 abbrev pub numbered : Rows → Bool
-numbered [] = true
-numbered (row ∷ rows) = leb 1 (row .0) && numbered rows
+numbered rows = every (leb 1) rows
+
+not-zero : (n : ℕ) (rest : Rows) → T (leb 1 n && numbered rest) → n ≡ 0 → ⊥
+not-zero n rest t e = omega (arith, leb→le 1 n (and-l (leb 1 n) (numbered rest) t))
+
+-- no number is above `most`
+pub first-most : (most : ℕ) (rows : Rows) → T (every (λ n. leb n most) rows) → first rows ≤ most
+first-most most rows t = leb→le (first rows) most (first-every (λ n. leb n most) rows (le→leb 0 most (omega arith)) t)
+
+-- n is the number of no row
+abbrev pub absent : ℕ → Rows → Bool
+absent n rows = every (λ m. not (eqb m n)) rows
+
+-- a number that no row has is not the first's
+pub first-absent : (n : ℕ) (rows : Rows) → 0 < n → T (absent n rows) → first rows ≡ n → ⊥
+first-absent n rows h t e =
+    let z : T (not (eqb 0 n)) = rw (ne-eqb 0 n (λ q. omega arith)) tt in
+    rw (eq-eqb (first rows) n e) at (first-every (λ m. not (eqb m n)) rows z t)
 
 -- ---- the rows one by one
 -- where no row holds, the first does not, and none of the others
-pub clear : (row : ℕ × Bool) (rest : Rows) → T (leb 1 (row .0)) → first (row ∷ rest) ≡ 0 → (row .1 ≡ false) × (first rest ≡ 0)
+pub clear : (row : ℕ × Bool) (rest : Rows) → first (row ∷ rest) ≡ 0 → T (leb 1 (row .0)) → (row .1 ≡ false) × (first rest ≡ 0)
 unfolding first
-clear (n, true) rest t e = absurd (omega (arith, leb→le 1 n t))
-clear (n, false) rest t e = (refl, e)
+clear (n, true) rest e t = absurd (omega (arith, leb→le 1 n t))
+clear (n, false) rest e t = (refl, e)
 
 -- rows that do not hold, in front, do not count
 pub first-after : (a b : Rows) → T (numbered a) → first a ≡ 0 → first (a ++ b) ≡ first b
 unfolding first
 first-after [] b t e = refl
-first-after ((n, true) ∷ rest) b t e = absurd (omega (arith, leb→le 1 n (and-l (leb 1 n) (numbered rest) t)))
+first-after ((n, true) ∷ rest) b t e = absurd (not-zero n rest t e)
 first-after ((n, false) ∷ rest) b t e = first-after rest b (and-r (leb 1 n) (numbered rest) t) e
+
+none : (n : ℕ) → 0 ≡ suc n → ⊥
+none n h = omega arith
 
 -- rows behind one that holds do not count
 pub first-before : (a b : Rows) (n : ℕ) → first a ≡ suc n → first (a ++ b) ≡ suc n
 unfolding first
-first-before [] b n e = absurd (never n e)
-  where
-    never : (n : ℕ) → 0 ≡ suc n → ⊥
-    never n h = omega arith
+first-before [] b n e = absurd (none n e)
 first-before ((m, true) ∷ rest) b n e = e
 first-before ((m, false) ∷ rest) b n e = first-before rest b n e
 
@@ -41,15 +70,10 @@ first-before ((m, false) ∷ rest) b n e = first-before rest b n e
 pub first-both : (a b : Rows) → T (numbered a) → first (a ++ b) ≡ 0 → (first a ≡ 0) × (first b ≡ 0)
 unfolding first
 first-both [] b t e = (refl, e)
-first-both ((n, true) ∷ rest) b t e = absurd (omega (arith, leb→le 1 n (and-l (leb 1 n) (numbered rest) t)))
+first-both ((n, true) ∷ rest) b t e = absurd (not-zero n rest t e)
 first-both ((n, false) ∷ rest) b t e = first-both rest b (and-r (leb 1 n) (numbered rest) t) e
 
 -- ---- exactly when
--- n is the number of a row that holds, and no row before it does
-pub data Fires (n : ℕ) : Rows → Type 0 where
-  here : {rest : Rows} → Fires n ((n, true) ∷ rest)
-  later : {m : ℕ} {rest : Rows} → Fires n rest → Fires n ((m, false) ∷ rest)
-
 pub fires-first : (n : ℕ) (rows : Rows) → Fires n rows → first rows ≡ n
 unfolding first
 fires-first n rows here = refl
@@ -57,17 +81,9 @@ fires-first n rows (later {rest = rest} f) = fires-first n rest f
 
 pub first-fires : (n : ℕ) (rows : Rows) → first rows ≡ suc n → Fires (suc n) rows
 unfolding first
-first-fires n [] e = absurd (never n e)
-  where
-    never : (n : ℕ) → 0 ≡ suc n → ⊥
-    never n h = omega arith
+first-fires n [] e = absurd (none n e)
 first-fires n ((m, true) ∷ rest) e = subst (λ (k : ℕ). Fires (suc n) ((k, true) ∷ rest)) (sym e) here
 first-fires n ((m, false) ∷ rest) e = later (first-fires n rest e)
-
--- no row holds
-pub data Silent : Rows → Type 0 where
-  empty : Silent []
-  quiet : {m : ℕ} {rest : Rows} → Silent rest → Silent ((m, false) ∷ rest)
 
 pub silent-first : (rows : Rows) → Silent rows → first rows ≡ 0
 unfolding first
@@ -77,7 +93,7 @@ silent-first rows (quiet {rest = rest} s) = silent-first rest s
 pub first-silent : (rows : Rows) → T (numbered rows) → first rows ≡ 0 → Silent rows
 unfolding first
 first-silent [] t e = empty
-first-silent ((n, true) ∷ rest) t e = absurd (omega (arith, leb→le 1 n (and-l (leb 1 n) (numbered rest) t)))
+first-silent ((n, true) ∷ rest) t e = absurd (not-zero n rest t e)
 first-silent ((n, false) ∷ rest) t e = quiet (first-silent rest (and-r (leb 1 n) (numbered rest) t) e)
 
 pub nothing : first [] ≡ 0
