@@ -9,11 +9,11 @@ use lib.Dec.{eqb}
 use lib.ListN.{length, getD, length-append}
 use borrow.Author.Tests.{eqb-true, eqb-false}
 use Rattle.request.specs.declared.Request.{Request}
-use Rattle.completion.specs.Refusals.{refusal}
-use Rattle.completion.specs.Answers.{completed, answer, completionOf}
-use Rattle.completion.proofs.ExactlyWhen.{stages, number-is, number-most}
-use Rattle.completion.proofs.Ranges.{source-range, source-given, top-range}
-use Rattle.completion.proofs.SentBackWhole.{rrup-high, site-rows}
+use Rattle.outcome.specs.Refusals.{refusal}
+use Rattle.outcome.specs.Answers.{completed, answer, completionOf}
+use Rattle.outcome.proofs.ExactlyWhen.{stages, number-is, number-most}
+use Rattle.outcome.proofs.Ranges.{source-range, source-given, top-range}
+use Rattle.outcome.proofs.SentBackWhole.{rrup-high, site-rows}
 use Rattle.model.specs.declared.Row.{Row}
 use Rattle.model.specs.Fixed.{noRow}
 use Rattle.prediction.specs.Spectra.{Small, spectrumOf}

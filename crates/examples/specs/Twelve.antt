@@ -9,7 +9,7 @@ use Rattle.request.specs.declared.Style.the-variants.{StrikeSlip, Reverse}
 use Rattle.request.specs.declared.Request.{Request}
 use Rattle.request.specs.Styles.{styleOf}
 use Rattle.refusals.specs.Order as No
-use Rattle.completion.specs.Answers.{completionOf, numberOf, figuresOf}
+use Rattle.outcome.specs.Answers.{completionOf, numberOf, figuresOf}
 use Rattle.tables.specs.Tables.{coefficientsAt}
 use Rattle.model.specs.Equations.{PGA, E27, fMag, fHngM}
 

@@ -11,11 +11,11 @@ use lib.IntN.{pos}
 use lib.ListN.{getD}
 use borrow.Author.Tests.{lt-ltb, le-ltb, ltb-true, ltb-false}
 use Rattle.request.specs.declared.Request.{Request}
-use Rattle.completion.specs.declared.Completed.{Completed}
-use Rattle.completion.specs.declared.Completion.the-variants as C
-use Rattle.completion.specs.Refusals.{refusal}
-use Rattle.completion.specs.Answers.{completed, completionOf}
-use Rattle.completion.proofs.ExactlyWhen.{accepted-by, completion-most}
+use Rattle.outcome.specs.declared.Completed.{Completed}
+use Rattle.outcome.specs.declared.Completion.the-variants as C
+use Rattle.outcome.specs.Refusals.{refusal}
+use Rattle.outcome.specs.Answers.{completed, completionOf}
+use Rattle.outcome.proofs.ExactlyWhen.{accepted-by, completion-most}
 use Rattle.model.specs.declared.Row.{Row}
 use Rattle.model.specs.Fixed.{rowFixed, noRow}
 use Rattle.prediction.specs.declared.measure.OneMeasure.the-variants as M
