@@ -2,19 +2,18 @@
 -- refusal's number is above 14. Assumes nothing.
 use Prim.Native.Nat.{ℕ, zero, suc, _*_, _≤_, _<_}
 use mathlib.Core.Path.{_≡_, refl, ap}
-use mathlib.Core.Bool.{Bool, true, false, _&&_}
+use mathlib.Core.Bool.{Bool, true, false}
 use mathlib.Core.List.{List, [], _∷_}
 use native.Mathlib.Omega.{arith}
-use lib.Dec.{T, leb, eqb, leb→le}
-use lib.Ieee.Fits.{and-l, and-r}
+use lib.Dec.{eqb}
 use lib.ListN.{length, getD, length-append}
 use borrow.Author.Tests.{eqb-true, eqb-false}
 use Rattle.request.specs.declared.Request.{Request}
-use Rattle.completion.specs.Refusals.{Rows, first, sourceGiven, sourceRows, pathGiven, pathRows, siteGiven, siteRows, rows, refusal}
-use Rattle.completion.specs.Answers.{completed, answer, completionOf}
-use Rattle.completion.proofs.ExactlyWhen.{stages, number-is}
-use Rattle.completion.proofs.Ranges.{source-range, source-given, top-range}
-use Rattle.completion.proofs.SentBackWhole.{rrup-high, site-rows}
+use Rattle.outcome.specs.Refusals.{refusal}
+use Rattle.outcome.specs.Answers.{completed, answer, completionOf}
+use Rattle.outcome.proofs.ExactlyWhen.{stages, number-is, number-most}
+use Rattle.outcome.proofs.Ranges.{source-range, source-given, top-range}
+use Rattle.outcome.proofs.SentBackWhole.{rrup-high, site-rows}
 use Rattle.model.specs.declared.Row.{Row}
 use Rattle.model.specs.Fixed.{noRow}
 use Rattle.prediction.specs.Spectra.{Small, spectrumOf}
@@ -30,22 +29,6 @@ use Rattle.answer.specs.declared.Sheet.the-variants as S
 use Rattle.answer.specs.RowLines.{rowLine, rowLines, spectrumLines}
 use Rattle.answer.specs.Sheets.{sheetOf, replyOf, answerTo, longestAnswer}
 use Rattle.answer.proofs.RowLaws.{length-row, refused-line, good-lines}
-
--- ---- the numbers of refusals
--- no row has a number above 13
-abbrev small : Rows → Bool
-small [] = true
-small (row ∷ rest) = leb (row .0) 13 && small rest
-
-first-small : (a : Rows) → T (small a) → first a ≤ 13
-unfolding first
-first-small [] t = omega arith
-first-small ((n, true) ∷ rest) t = leb→le n 13 (and-l (leb n 13) (small rest) t)
-first-small ((n, false) ∷ rest) t = first-small rest (and-r (leb n 13) (small rest) t)
-
-refusal-small : (r : Request) → refusal r ≤ 13
-unfolding refusal rows sourceRows sourceGiven pathRows pathGiven siteRows siteGiven
-refusal-small r = first-small (rows r) tt
 
 -- ---- the lines
 -- the most bytes of a line
@@ -76,7 +59,7 @@ completion-short r = go (refusal r) refl
   where
     go : (n : ℕ) → refusal r ≡ n → length (completionLine (answer n r)) ≤ most
     go zero e = ok-short r e
-    go (suc n) e = no-short (suc n) (omega (arith, refusal-small r))
+    go (suc n) e = no-short (suc n) (omega (arith, number-most r))
 
 row-short : (k : ℕ) (row : Row) → k < 24 → Small row → length (rowLine k row) ≤ most
 row-short k row h b =
@@ -114,7 +97,7 @@ spectrum-short r = go (eqb (spectrumOf r .refusal) 0) refl
         omega (
           arith,
           ap length (refused-line (spectrumOf r) (eqb-false (spectrumOf r .refusal) 0 e)),
-          no-short (spectrumOf r .refusal) (omega (arith, number-handed-on r, number-is r, refusal-small r)),
+          no-short (spectrumOf r .refusal) (omega (arith, number-handed-on r, number-is r, number-most r)),
         )
 
 -- ---- the answers

@@ -1,51 +1,49 @@
 // A request completed: every figure that was left blank estimated by its one published rule, or the
-// first refusal in document 01's order. It goes in three stages, as the figures hang together: the
-// source of the shaking, the path to the site, the site itself.
-mod figure;
-mod path;
-mod site;
-mod source;
-
-pub use figure::Figure;
-use figure::FigureAnswer;
-use path::complete_path;
+// first refusal in document 01's order, stage by stage.
+pub use outcome::Completed;
+pub use outcome::Completion;
+pub use outcome::Figure;
+use outcome::FigureAnswer;
+use outcome::Source;
+use outcome::SourceAnswer;
+use outcome::figure_number;
+pub use outcome::number_of;
+use outcome::source_number;
+use path_stage::complete_path;
 use request::Request;
 use request::size_of;
 use request::value_of;
-use site::complete_site;
-use source::SourceAnswer;
-use source::complete_source;
+use site_stage::complete_site;
+use source_stage::complete_source;
 ghost use mathlib.Core.Path.{_≡_};
-ghost use Rattle.completion.specs.Answers.{completionOf, numberOf};
+ghost use Rattle.outcome.specs.Figures.{rrup, z25};
+ghost use Rattle.outcome.specs.Refusals.{refusal};
+ghost use Rattle.outcome.specs.Answers.{sourceFigures, completed, completionOf};
 
-// What is known of a request once it is completed: magnitude in hundredths, angles in degrees, Vs30
-// in m/s, lengths and depths in metres.
-pub struct Completed {
-    pub m: u64,
-    pub rake: i64,
-    pub vs30: u64,
-    pub dip: Figure,
-    pub w: Figure,
-    pub ztor: Figure,
-    pub rjb: u64,
-    pub azimuth: i64,
-    pub rrup: Figure,
-    pub z25: Figure,
-}
-
-// The completed figures, or the refusal's number.
-pub enum Completion {
-    Done(Completed),
-    Refused(u32),
-}
-
-// The refusal's number, 0 for none.
-pub fn number_of(c: Completion) -> u32
-    ensures { λ n. ⌜ n ≡ numberOf c ⌝ }
+// The figures of an accepted request, gathered.
+fn gathered(r: Request, s: Source, distance: Figure, depth: Figure) -> Completed
+    requires { ⌜ (refusal r ≡ 0) × (s ≡ sourceFigures r) × (distance ≡ rrup r) × (depth ≡ z25 r) ⌝ }
+    ensures { λ c. ⌜ c ≡ completed r ⌝ }
 {
-    match c {
-        Completion::Done(_) => 0,
-        Completion::Refused(n) => n,
+    let m = r.m;
+    let rake = r.rake;
+    let vs30 = r.vs30;
+    let rjb = r.rjb;
+    let azimuth = r.azimuth;
+    let dip = s.dip;
+    let w = s.w;
+    let ztor = s.ztor;
+    Completed {
+        m: size_of(m),
+        rake: value_of(rake),
+        vs30: size_of(vs30),
+        dip: dip,
+        w: w,
+        ztor: ztor,
+        rjb: size_of(rjb),
+        azimuth: value_of(azimuth),
+        rrup: distance,
+        z25: depth,
     }
 }
 
@@ -55,43 +53,15 @@ pub fn complete(r: Request) -> Completion
 {
     let source = complete_source(r);
     let SourceAnswer::Known(s) = source else {
-        match source {
-            SourceAnswer::Refused(n) => return Completion::Refused(n),
-            SourceAnswer::Known(_) => return Completion::Refused(0),
-        }
+        return Completion::Refused(source_number(source));
     };
     let path = complete_path(r, s);
     let FigureAnswer::Known(rrup) = path else {
-        match path {
-            FigureAnswer::Refused(n) => return Completion::Refused(n),
-            FigureAnswer::Known(_) => return Completion::Refused(0),
-        }
+        return Completion::Refused(figure_number(path));
     };
     let site = complete_site(r);
     let FigureAnswer::Known(z25) = site else {
-        match site {
-            FigureAnswer::Refused(n) => return Completion::Refused(n),
-            FigureAnswer::Known(_) => return Completion::Refused(0),
-        }
+        return Completion::Refused(figure_number(site));
     };
-    let m = r.m;
-    let rake = r.rake;
-    let vs30 = r.vs30;
-    let rjb = r.rjb;
-    let azimuth = r.azimuth;
-    let dip = s.dip;
-    let w = s.w;
-    let ztor = s.ztor;
-    Completion::Done(Completed {
-        m: size_of(m),
-        rake: value_of(rake),
-        vs30: size_of(vs30),
-        dip: dip,
-        w: w,
-        ztor: ztor,
-        rjb: size_of(rjb),
-        azimuth: value_of(azimuth),
-        rrup: rrup,
-        z25: z25,
-    })
+    Completion::Done(gathered(r, s, rrup, z25))
 }

@@ -8,7 +8,8 @@ use Rattle.request.specs.declared.Field.the-variants.{Given, Blank}
 use Rattle.request.specs.declared.Style.the-variants.{StrikeSlip, Reverse}
 use Rattle.request.specs.declared.Request.{Request}
 use Rattle.request.specs.Styles.{styleOf}
-use Rattle.completion.specs.Answers.{completionOf, numberOf, figuresOf}
+use Rattle.refusals.specs.Order as No
+use Rattle.outcome.specs.Answers.{completionOf, numberOf, figuresOf}
 use Rattle.tables.specs.Tables.{coefficientsAt}
 use Rattle.model.specs.Equations.{PGA, E27, fMag, fHngM}
 
@@ -39,8 +40,8 @@ abbrev pub refusalOf : Request → ℕ
 refusalOf r = numberOf (completionOf r)
 
 -- its completed Z2.5
-abbrev pub basinOf : Request → ℕ
-basinOf r = figuresOf (completionOf r) .z25 .value
+abbrev pub completedBasin : Request → ℕ
+completedBasin r = figuresOf (completionOf r) .z25 .value
 
 abbrev pub twelve : List (Type 0)
 twelve =
@@ -57,17 +58,17 @@ twelve =
     -- 6. -150 strike-slip
     ∷ (styleOf (negsuc 149) ≡ StrikeSlip)
     -- 7. Z1.5 of 6045 completes to 9999
-    ∷ (basinOf (request 650 0 (metres 3000) Blank Blank (metres 6045) Blank) ≡ 9999)
+    ∷ (completedBasin (request 650 0 (metres 3000) Blank Blank (metres 6045) Blank) ≡ 9999)
     -- 8. 6046 gives refusal 13
-    ∷ (refusalOf (request 650 0 (metres 3000) Blank Blank (metres 6046) Blank) ≡ 13)
+    ∷ (refusalOf (request 650 0 (metres 3000) Blank Blank (metres 6046) Blank) ≡ No.basin)
     -- 9. Z1.0 of 1000 completes to 4114
-    ∷ (basinOf (request 650 0 (metres 3000) Blank (metres 1000) Blank Blank) ≡ 4114)
+    ∷ (completedBasin (request 650 0 (metres 3000) Blank (metres 1000) Blank Blank) ≡ 4114)
     -- 10. Reverse, M 800 accepted, 801 refused (2)
     ∷ ((refusalOf (request 800 90 (metres 3000) Blank Blank Blank (metres 2000)) ≡ 0)
-    × (refusalOf (request 801 90 (metres 3000) Blank Blank Blank (metres 2000)) ≡ 2))
+    × (refusalOf (request 801 90 (metres 3000) Blank Blank Blank (metres 2000)) ≡ No.magnitude))
     -- 11. RJB 4000, ZTOR 1000: given RRUP 4123 accepted, 4122 refused (12)
     ∷ ((refusalOf (request 650 0 (metres 1000) (metres 4123) Blank Blank (metres 2000)) ≡ 0)
-    × (refusalOf (request 650 0 (metres 1000) (metres 4122) Blank Blank (metres 2000)) ≡ 12))
+    × (refusalOf (request 650 0 (metres 1000) (metres 4122) Blank Blank (metres 2000)) ≡ No.tooShort))
     -- 12. Magnitude factor 0.5 at M 6.25
     ∷ (fHngM 625 ≡ 50)
     ∷ []

@@ -9,9 +9,9 @@ use native.Mathlib.Omega.{arith}
 use lib.Dec.{ltb, eqb}
 use lib.ListN.{length, getD, length-append}
 use borrow.Author.Tests.{lt-ltb, le-ltb, ltb-true, ltb-false, eqb-true, eqb-false}
-use Rattle.completion.specs.declared.Completion.{Completion}
-use Rattle.completion.specs.declared.Completion.the-variants as C
-use Rattle.completion.specs.Answers.{completionOf}
+use Rattle.outcome.specs.declared.Completion.{Completion}
+use Rattle.outcome.specs.declared.Completion.the-variants as C
+use Rattle.outcome.specs.Answers.{completionOf}
 use Rattle.model.specs.declared.Row.{Row}
 use Rattle.model.specs.Fixed.{noRow}
 use Rattle.prediction.specs.declared.Spectrum.{Spectrum}

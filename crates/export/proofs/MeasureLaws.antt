@@ -7,10 +7,10 @@ use lib.Dec.{ltb}
 use lib.Ieee.{Float}
 use borrow.Author.Tests.{ltb-true, ltb-false}
 use Rattle.request.specs.declared.Request.{Request}
-use Rattle.completion.specs.declared.Completed.{Completed}
-use Rattle.completion.specs.declared.Completion.the-variants as C
-use Rattle.completion.specs.Answers.{completionOf, numberOf}
-use Rattle.completion.proofs.ExactlyWhen.{number-is, accepted-by}
+use Rattle.outcome.specs.declared.Completed.{Completed}
+use Rattle.outcome.specs.declared.Completion.the-variants as C
+use Rattle.outcome.specs.Answers.{completionOf, numberOf}
+use Rattle.outcome.proofs.ExactlyWhen.{number-is, accepted-by}
 use Rattle.model.specs.declared.Row.{Row}
 use Rattle.model.specs.Fixed.{rowFixed}
 use Rattle.text.specs.declared.read.Line.{Line}
@@ -50,7 +50,6 @@ same-number m n e = cc
 
 -- no request is refused with 0
 never-0 : (r : Request) → completionOf r ≡ C.Refused 0 → ⊥
-unfolding numberOf
 never-0 r e =
     let a = accepted-by r (sym (number-is r) ∙ ap numberOf e) in
     let z : _≡_ {A = ℕ} 0 1 = cc in

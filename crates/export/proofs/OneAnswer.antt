@@ -3,7 +3,7 @@ use Prim.Native.Nat.{ℕ}
 use mathlib.Core.Path.{_≡_}
 use mathlib.Core.List.{List}
 use lib.Ieee.{Float}
-use Rattle.completion.proofs.OneAnswer.{one-answer}
+use Rattle.outcome.proofs.OneAnswer.{one-answer}
 use Rattle.prediction.specs.declared.floats.FloatSpectrum.{FloatSpectrum}
 use Rattle.prediction.specs.declared.measure.OneMeasure.{OneMeasure}
 use Rattle.export.specs.Given.{LineGiven, MeasureGiven, SpectrumGiven}

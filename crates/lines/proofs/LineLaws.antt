@@ -10,7 +10,7 @@ use borrow.Author.Tests.{lt-ltb, le-ltb, ltb-true, ltb-false}
 use lib.Dec.{ltb}
 use lib.ListN.{length, getD, take, drop, set, length-append, take-append-drop}
 use lib.Seq.{length-take-le, take-suc}
-use Rattle.completion.specs.declared.Completed.{Completed}
+use Rattle.outcome.specs.declared.Completed.{Completed}
 use Rattle.text.specs.Grammar.{space}
 use Rattle.text.specs.Render.{ascii, render, put, Written}
 use Rattle.text.proofs.PutLaws.{put-one, put-put, length-put}

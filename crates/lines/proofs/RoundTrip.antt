@@ -7,10 +7,10 @@ use mathlib.Core.List.{List, [], _∷_, _++_, append-assoc}
 use native.Mathlib.Omega.{arith}
 use lib.ListN.{length, getD, take, length-append}
 use lib.Seq.{take-append-seam, drop-at, take-at}
-use Rattle.completion.specs.declared.figure.Figure.{Figure}
-use Rattle.completion.specs.declared.Completed.{Completed}
-use Rattle.completion.specs.declared.Completion.{Completion}
-use Rattle.completion.specs.declared.Completion.the-variants as C
+use Rattle.outcome.specs.declared.Figure.{Figure}
+use Rattle.outcome.specs.declared.Completed.{Completed}
+use Rattle.outcome.specs.declared.Completion.{Completion}
+use Rattle.outcome.specs.declared.Completion.the-variants as C
 use Rattle.text.specs.Grammar.{space, spaceAt, digitsOf}
 use Rattle.text.specs.Render.{ascii, render, put}
 use Rattle.text.proofs.PutLaws.{text-put}

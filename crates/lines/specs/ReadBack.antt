@@ -4,9 +4,9 @@ use mathlib.Core.Bool.{cond}
 use mathlib.Core.List.{List}
 use lib.Dec.{eqb}
 use lib.ListN.{length, getD, take, drop}
-use Rattle.completion.specs.declared.figure.Figure.{Figure}
-use Rattle.completion.specs.declared.Completion.{Completion}
-use Rattle.completion.specs.declared.Completion.the-variants as C
+use Rattle.outcome.specs.declared.Figure.{Figure}
+use Rattle.outcome.specs.declared.Completion.{Completion}
+use Rattle.outcome.specs.declared.Completion.the-variants as C
 use Rattle.text.specs.declared.figures.Number.{Number}
 use Rattle.text.specs.declared.figures.Number.the-variants as N
 use Rattle.text.specs.Grammar.{spaceAt, digitsOf}

@@ -1,7 +1,7 @@
 // A completion, or a refusal, as a line of text in lent bytes.
 mod write;
 
-use completion::Completion;
+use outcome::Completion;
 pub use write::TOO_LONG;
 pub use write::put_ended;
 pub use write::write_no;

@@ -1,8 +1,8 @@
 // An answer as a line of text, written into lent bytes: counted first, so that a line too long for
 // them changes none.
 use crate::Wrote;
-use completion::Completed;
-use completion::Figure;
+use outcome::Completed;
+use outcome::Figure;
 use text::digits;
 use text::put_byte;
 use text::put_number;

@@ -1,13 +1,13 @@
 -- The completed figures of an accepted request lie in the ranges of which the model's laws speak. Assumes nothing.
 use mathlib.Core.Path.{_≡_, sym, ap, subst, _∙_}
 use Rattle.request.specs.declared.Request.{Request}
-use Rattle.completion.specs.declared.Completed.{Completed}
-use Rattle.completion.specs.declared.Completion.the-variants as C
-use Rattle.completion.specs.Refusals.{refusal}
-use Rattle.completion.specs.Answers.{completed, completionOf, numberOf}
-use Rattle.completion.proofs.ExactlyWhen.{stages, number-is, accepted-by}
-use Rattle.completion.proofs.Ranges.{source-range, source-given, top-range, path-range, path-given}
-use Rattle.completion.proofs.SentBackWhole.{rrup-high, long-enough, site-rows}
+use Rattle.outcome.specs.declared.Completed.{Completed}
+use Rattle.outcome.specs.declared.Completion.the-variants as C
+use Rattle.outcome.specs.Refusals.{refusal}
+use Rattle.outcome.specs.Answers.{completed, completionOf, numberOf}
+use Rattle.outcome.proofs.ExactlyWhen.{stages, number-is, accepted-by}
+use Rattle.outcome.proofs.Ranges.{source-range, source-given, top-range, path-range, path-given}
+use Rattle.outcome.proofs.SentBackWhole.{rrup-high, long-enough, site-rows}
 use Rattle.model.specs.Accuracy.{InRange}
 use Rattle.prediction.specs.Spectra.{scenarioOf}
 
@@ -16,7 +16,6 @@ done : (c d : Completed) → C.Done c ≡ C.Done d → c ≡ d
 done c d e = cc
 
 pub accepted : (r : Request) (c : Completed) → completionOf r ≡ C.Done c → refusal r ≡ 0
-unfolding numberOf
 accepted r c e = sym (number-is r) ∙ ap numberOf e
 
 pub completed-is : (r : Request) (c : Completed) → completionOf r ≡ C.Done c → completed r ≡ c

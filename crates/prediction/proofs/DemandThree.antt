@@ -5,9 +5,9 @@ use Prim.Native.Nat.{ℕ, _<_}
 use mathlib.Core.Path.{_≡_, sym, ap, subst}
 use lib.ListN.{length, getD, length-replicate, getD-replicate}
 use Rattle.request.specs.declared.Request.{Request}
-use Rattle.completion.specs.declared.Completed.{Completed}
-use Rattle.completion.specs.declared.Completion.the-variants as C
-use Rattle.completion.specs.Answers.{completionOf, numberOf}
+use Rattle.outcome.specs.declared.Completed.{Completed}
+use Rattle.outcome.specs.declared.Completion.the-variants as C
+use Rattle.outcome.specs.Answers.{completionOf, numberOf}
 use Rattle.model.specs.Fixed.{noRow}
 use Rattle.model.specs.Accuracy.{Accurate}
 use Rattle.model.proofs.Demand.{demand-3}
@@ -35,7 +35,7 @@ refused-rows r n k e h = rw (spectrum-refused r n e) (getD-replicate 24 k noRow 
 -- ---- any request
 -- the number is the completion's, 0 for none
 pub number-handed-on : (r : Request) → spectrumOf r .refusal ≡ numberOf (completionOf r)
-unfolding spectrumOf spectrumFor refusedWith numberOf
+unfolding spectrumOf spectrumFor refusedWith
 number-handed-on r = by-completion r (λ c e. rw e) (λ n e. rw e)
 
 pub twenty-four : (r : Request) → length (spectrumOf r .rows) ≡ 24

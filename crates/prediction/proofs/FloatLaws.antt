@@ -12,8 +12,8 @@ use lib.Seq.{ext-getD}
 use lib.Ieee.{binary64, inFloat, ofInt}
 use lib.Ieee.Back.{round-whole}
 use Rattle.request.specs.declared.Request.{Request}
-use Rattle.completion.specs.declared.Completion.the-variants as C
-use Rattle.completion.specs.Answers.{completionOf}
+use Rattle.outcome.specs.declared.Completion.the-variants as C
+use Rattle.outcome.specs.Answers.{completionOf}
 use Rattle.model.specs.declared.Row.{Row}
 use Rattle.model.specs.Fixed.{noRow}
 use Rattle.prediction.specs.declared.floats.FloatRow.{FloatRow}

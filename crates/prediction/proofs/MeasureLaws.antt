@@ -1,22 +1,21 @@
 -- The answer for one measure is that of the spectrum's row, nothing lost; 15 is given exactly when the request is accepted and the
 -- measure's number is above 23. Assumes nothing.
 use Prim.Native.Nat.{ℕ, _≤_, _<_}
-use mathlib.Core.Path.{_≡_, refl, sym, ap, subst, _∙_}
-use mathlib.Core.Bool.{Bool, true, false, _&&_}
-use mathlib.Core.List.{List, [], _∷_}
+use mathlib.Core.Path.{_≡_, refl, sym, ap, _∙_}
+use mathlib.Core.Bool.{Bool, true, false}
+use mathlib.Core.List.{List}
 use mathlib.Core.Logic.{_↔_}
 use native.Mathlib.Omega.{arith}
-use lib.Dec.{T, leb, leb→le, ltb}
+use lib.Dec.{ltb}
 use lib.IntN.{pos}
 use lib.ListN.{getD}
-use lib.Ieee.Fits.{and-l, and-r}
 use borrow.Author.Tests.{lt-ltb, le-ltb, ltb-true, ltb-false}
 use Rattle.request.specs.declared.Request.{Request}
-use Rattle.completion.specs.declared.Completed.{Completed}
-use Rattle.completion.specs.declared.Completion.the-variants as C
-use Rattle.completion.specs.Refusals.{Rows, first, sourceGiven, sourceRows, pathGiven, pathRows, siteGiven, siteRows, rows, refusal}
-use Rattle.completion.specs.Answers.{completed, completionOf, numberOf}
-use Rattle.completion.proofs.ExactlyWhen.{number-is, accepted-by}
+use Rattle.outcome.specs.declared.Completed.{Completed}
+use Rattle.outcome.specs.declared.Completion.the-variants as C
+use Rattle.outcome.specs.Refusals.{refusal}
+use Rattle.outcome.specs.Answers.{completed, completionOf}
+use Rattle.outcome.proofs.ExactlyWhen.{accepted-by, completion-most}
 use Rattle.model.specs.declared.Row.{Row}
 use Rattle.model.specs.Fixed.{rowFixed, noRow}
 use Rattle.prediction.specs.declared.measure.OneMeasure.the-variants as M
@@ -61,25 +60,6 @@ measure-whole r k h =
     (float-is (pos (row .median)) (omega (arith, s .median)), float-is (pos (row .total)) (omega (arith, s .total)))
 
 -- ---- 15 exactly when
--- no row of the table of refusals has a number above 13
-low : Rows → Bool
-low [] = true
-low (row ∷ rest) = leb (row .0) 13 && low rest
-
-first-low : (rows : Rows) → T (low rows) → first rows ≤ 13
-unfolding first low
-first-low [] t = omega arith
-first-low ((n, true) ∷ rest) t = leb→le n 13 (and-l (leb n 13) (low rest) t)
-first-low ((n, false) ∷ rest) t = first-low rest (and-r (leb n 13) (low rest) t)
-
-rows-low : (r : Request) → T (low (rows r))
-unfolding low rows sourceRows sourceGiven pathRows pathGiven siteRows siteGiven
-rows-low r = tt
-
-number-low : (r : Request) (n : ℕ) → completionOf r ≡ C.Refused n → n ≤ 13
-unfolding refusal numberOf
-number-low r n e = subst (λ (m : ℕ). m ≤ 13) (sym (number-is r) ∙ ap numberOf e) (first-low (rows r) (rows-low r))
-
 same-refusal : (m n : ℕ) → M.Refused m ≡ M.Refused n → m ≡ n
 same-refusal m n e = cc
 
@@ -98,7 +78,7 @@ no-measure-exactly r k = (there, λ p. measure-none r (completed r) k (accepted-
     there : measureOf r k ≡ M.Refused 15 → (refusal r ≡ 0) × (23 < k)
     there h =
         by-completion r (λ c e. (accepted r c e, by-number c e h (ltb 23 k) refl))
-        (λ n e. absurd (too-high n (number-low r n e) (same-refusal n 15 (sym (measure-refused r n k e) ∙ h))))
+        (λ n e. absurd (too-high n (completion-most r n e) (same-refusal n 15 (sym (measure-refused r n k e) ∙ h))))
       where
         too-high : (n : ℕ) → n ≤ 13 → n ≡ 15 → ⊥
         too-high n l e = omega arith

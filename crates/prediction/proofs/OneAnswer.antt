@@ -2,7 +2,7 @@
 use Prim.Native.Nat.{ℕ}
 use mathlib.Core.Path.{_≡_}
 use Rattle.request.specs.declared.Request.{Request}
-use Rattle.completion.proofs.OneAnswer.{one-answer}
+use Rattle.outcome.proofs.OneAnswer.{one-answer}
 use Rattle.prediction.specs.declared.Spectrum.{Spectrum}
 use Rattle.prediction.specs.declared.floats.FloatSpectrum.{FloatSpectrum}
 use Rattle.prediction.specs.declared.measure.OneMeasure.{OneMeasure}

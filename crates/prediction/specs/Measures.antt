@@ -4,9 +4,9 @@ use mathlib.Core.Bool.{cond}
 use lib.Dec.{ltb}
 use lib.IntN.{pos}
 use Rattle.request.specs.declared.Request.{Request}
-use Rattle.completion.specs.declared.Completion.{Completion}
-use Rattle.completion.specs.declared.Completion.the-variants as C
-use Rattle.completion.specs.Answers.{completionOf}
+use Rattle.outcome.specs.declared.Completion.{Completion}
+use Rattle.outcome.specs.declared.Completion.the-variants as C
+use Rattle.outcome.specs.Answers.{completionOf}
 use Rattle.model.specs.declared.Row.{Row}
 use Rattle.model.specs.Fixed.{rowFixed}
 use Rattle.prediction.specs.declared.measure.OneMeasure.{OneMeasure}

@@ -5,10 +5,10 @@ use lib.IntN.{natAbs}
 use lib.ListN.{replicate}
 use Rattle.request.specs.declared.Request.{Request}
 use Rattle.request.specs.Styles.{styleOf}
-use Rattle.completion.specs.declared.Completed.{Completed}
-use Rattle.completion.specs.declared.Completion.{Completion}
-use Rattle.completion.specs.declared.Completion.the-variants as C
-use Rattle.completion.specs.Answers.{completionOf}
+use Rattle.outcome.specs.declared.Completed.{Completed}
+use Rattle.outcome.specs.declared.Completion.{Completion}
+use Rattle.outcome.specs.declared.Completion.the-variants as C
+use Rattle.outcome.specs.Answers.{completionOf}
 use Rattle.model.specs.declared.Scenario.{Scenario}
 use Rattle.model.specs.declared.Row.{Row}
 use Rattle.model.specs.Fixed.{rowFixed, noRow}

@@ -1,8 +1,9 @@
 -- The refusals by name, the order in which they are tested, and what it means that one of them is the first. Document 01's table, from
 -- the top; no other file of the specs has their numbers. Definitions only.
 use Prim.Native.Nat.{ℕ}
-use mathlib.Core.Bool.{Bool, true, false, cond}
+use mathlib.Core.Bool.{Bool, true, false, not, cond, _&&_}
 use mathlib.Core.List.{List, [], _∷_}
+use lib.Dec.{T, eqb}
 
 -- ---- by name
 -- the line cannot be read
@@ -102,3 +103,27 @@ pub data Fires (n : ℕ) : Rows → Type 0 where
 pub data Silent : Rows → Type 0 where
   empty : Silent []
   quiet : {m : ℕ} {rest : Rows} → Silent rest → Silent ((m, false) ∷ rest)
+
+-- ---- a table in the order
+-- what is left of a list from n on, nothing where n is not in it
+abbrev pub from : ℕ → List ℕ → List ℕ
+from n [] = []
+from n (m ∷ rest) = cond (eqb n m) (m ∷ rest) (from n rest)
+
+abbrev pub some : List ℕ → Bool
+some [] = false
+some (n ∷ rest) = true
+
+-- no number stands in a list twice
+abbrev pub apart : List ℕ → Bool
+apart [] = true
+apart (n ∷ rest) = not (some (from n rest)) && apart rest
+
+-- each row's number stands in the list, not before that of the row above it
+abbrev pub follows : List ℕ → Rows → Bool
+follows list [] = true
+follows list (row ∷ rows) = some (from (row .0) list) && follows (from (row .0) list) rows
+
+-- a table's rows stand in the order in which they are tested, where a number may have several
+abbrev pub InOrder : Rows → Type 0
+InOrder rows = T (follows order rows)

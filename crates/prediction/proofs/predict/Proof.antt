@@ -4,8 +4,8 @@ use Prim.Native.Nat.{ℕ}
 use mathlib.Core.Path.{_≡_, sym, ap, subst, _∙_}
 use mathlib.Core.List.{List}
 use borrow.Author.Needs.{needs}
-use Rattle.completion.specs.declared.Completion.the-variants as C
-use Rattle.completion.specs.Answers.{completionOf}
+use Rattle.outcome.specs.declared.Completion.the-variants as C
+use Rattle.outcome.specs.Answers.{completionOf}
 use Rattle.model.specs.declared.Row.{Row}
 use Rattle.model.specs.Accuracy.{InRange}
 use Rattle.prediction.specs.declared.Spectrum.{Spectrum}

@@ -5,7 +5,7 @@ use mathlib.Core.List.{List, _++_}
 use native.Mathlib.Omega.{arith}
 use denote.Ref.{now}
 use lib.ListN.{length}
-use Rattle.completion.specs.declared.Completed.{Completed}
+use Rattle.outcome.specs.declared.Completed.{Completed}
 use Rattle.text.specs.Render.{ascii, Written}
 use Rattle.text.proofs.PutLaws.{shorter, room-after, then}
 use Rattle.lines.specs.Lines.{spaced, letters, okLine}

@@ -1,8 +1,0 @@
-pub mod Rows
-pub mod Ranges
-pub mod ExactlyWhen
-pub mod EstimatesNear
-pub mod Alone
-pub mod SentBackWhole
-pub mod OneAnswer
-pub mod Staged

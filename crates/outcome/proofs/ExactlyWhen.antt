@@ -1,0 +1,94 @@
+-- The table of refusals stands in document 01's order. A request is refused with n exactly when a row of n holds and no row before it
+-- does, and accepted exactly when none holds. Assumes nothing.
+use Prim.Native.Nat.{ℕ, zero, suc, _≤_, _<_}
+use mathlib.Core.Path.{_≡_, refl, sym, ap, subst, _∙_}
+use mathlib.Core.List.{_++_}
+use mathlib.Core.Logic.{_↔_}
+use lib.Dec.{T}
+use Rattle.request.specs.declared.Request.{Request}
+use Rattle.outcome.specs.declared.Completion.{Completion}
+use Rattle.outcome.specs.declared.Completion.the-variants as C
+use Rattle.refusals.specs.Order.{first, Fires, Silent, InOrder}
+use Rattle.refusals.specs.Order as No
+use Rattle.outcome.specs.Refusals.{sourceGiven, sourceRows, pathGiven, pathRows, siteGiven, siteRows, rows, refusal}
+use Rattle.outcome.specs.Answers.{completed, answer, completionOf, numberOf}
+use Rattle.refusals.proofs.Rows.{numbered, absent, first-most, first-absent, first-both, fires-first, first-fires, silent-first, first-silent}
+
+pub in-order : (r : Request) → InOrder (rows r)
+unfolding rows sourceRows sourceGiven pathRows pathGiven siteRows siteGiven
+in-order r = tt
+
+-- an answer's number is the refusal's
+answer-number : (n : ℕ) (r : Request) → numberOf (answer n r) ≡ n
+unfolding answer
+answer-number zero r = refl
+answer-number (suc n) r = refl
+
+pub number-is : (r : Request) → numberOf (completionOf r) ≡ refusal r
+unfolding completionOf
+number-is r = answer-number (refusal r) r
+
+refused-by : (n : ℕ) (r : Request) → refusal r ≡ suc n → completionOf r ≡ C.Refused (suc n)
+unfolding completionOf answer
+refused-by n r e = ap (λ (k : ℕ). answer k r) e
+
+pub refused-exactly : (r : Request) (n : ℕ) → (completionOf r ≡ C.Refused (suc n)) ↔ Fires (suc n) (rows r)
+unfolding refusal
+refused-exactly r n =
+    ((λ e. first-fires n (rows r) (sym (number-is r) ∙ ap numberOf e)), (λ f. refused-by n r (fires-first (suc n) (rows r) f)))
+
+pub accepted-by : (r : Request) → refusal r ≡ 0 → completionOf r ≡ C.Done (completed r)
+unfolding completionOf answer
+accepted-by r e = ap (λ (k : ℕ). answer k r) e
+
+pub accepted-refusal : (r : Request) → completionOf r ≡ C.Done (completed r) → refusal r ≡ 0
+accepted-refusal r e = sym (number-is r) ∙ ap numberOf e
+
+-- ---- the numbers
+-- none is above that of the last row
+pub number-most : (r : Request) → refusal r ≤ No.basin
+unfolding refusal rows sourceRows sourceGiven pathRows pathGiven siteRows siteGiven
+number-most r = first-most No.basin (rows r) tt
+
+pub completion-most : (r : Request) (n : ℕ) → completionOf r ≡ C.Refused n → n ≤ No.basin
+completion-most r n e = subst (λ (m : ℕ). m ≤ No.basin) (sym (number-is r) ∙ ap numberOf e) (number-most r)
+
+-- a number that no row has is never given
+pub completion-absent : (r : Request) (n : ℕ) → 0 < n → T (absent n (rows r)) → completionOf r ≡ C.Refused n → ⊥
+unfolding refusal
+completion-absent r n h t e = first-absent n (rows r) h t (sym (number-is r) ∙ ap numberOf e)
+
+-- every row has its number
+pub rows-numbered : (r : Request) → T (numbered (rows r))
+unfolding rows sourceRows sourceGiven pathRows pathGiven siteRows siteGiven
+rows-numbered r = tt
+
+pub source-numbered : (r : Request) → T (numbered (sourceRows r))
+unfolding sourceRows sourceGiven
+source-numbered r = tt
+
+pub all-path-numbered : (r : Request) → T (numbered (pathRows r))
+unfolding pathRows pathGiven
+all-path-numbered r = tt
+
+pub path-numbered : (r : Request) → T (numbered (pathGiven r))
+unfolding pathGiven
+path-numbered r = tt
+
+pub accepted-exactly : (r : Request) → (completionOf r ≡ C.Done (completed r)) ↔ Silent (rows r)
+unfolding refusal
+accepted-exactly r =
+    ((λ e. first-silent (rows r) (rows-numbered r) (accepted-refusal r e)), (λ s. accepted-by r (silent-first (rows r) s)))
+
+-- an accepted request is accepted at each stage
+pub record Stages (r : Request) : Type 0 where
+  pub source : first (sourceRows r) ≡ 0
+  pub path : first (pathRows r) ≡ 0
+  pub site : first (siteRows r) ≡ 0
+
+pub stages : (r : Request) → refusal r ≡ 0 → Stages r
+unfolding refusal rows
+stages r e =
+    let a = first-both (sourceRows r) (pathRows r ++ siteRows r) (source-numbered r) e in
+    let b = first-both (pathRows r) (siteRows r) (all-path-numbered r) (a .1) in
+    record { source = a .0; path = b .0; site = b .1 }

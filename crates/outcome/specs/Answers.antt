@@ -1,0 +1,105 @@
+-- The answer to a request, stage by stage and whole: the completed figures where no row of `Refusals` holds, else the number of the
+-- first that does. Definitions only.
+use Prim.Native.Nat.{ℕ, zero, suc}
+use mathlib.Core.Bool.{false}
+use lib.IntN.{pos}
+use Rattle.request.specs.declared.Request.{Request}
+use Rattle.request.specs.Fields.{sizeOf, valueOf}
+use Rattle.outcome.specs.declared.Figure.{Figure}
+use Rattle.outcome.specs.declared.FigureAnswer.{FigureAnswer}
+use Rattle.outcome.specs.declared.FigureAnswer.the-variants as F
+use Rattle.outcome.specs.declared.Source.{Source}
+use Rattle.outcome.specs.declared.SourceAnswer.{SourceAnswer}
+use Rattle.outcome.specs.declared.SourceAnswer.the-variants as S
+use Rattle.outcome.specs.declared.Completed.{Completed}
+use Rattle.outcome.specs.declared.Completion.{Completion}
+use Rattle.outcome.specs.declared.Completion.the-variants as C
+use Rattle.outcome.specs.Figures.{dip, width, ztor, rrup, z25}
+use Rattle.refusals.specs.Order.{first}
+use Rattle.outcome.specs.Refusals.{sourceRows, pathRows, siteRows, refusal}
+
+-- ---- the stages
+unfoldable pub sourceFigures : Request → Source
+unfolding dip width ztor
+sourceFigures r = record { dip = dip r; w = width r; ztor = ztor r }
+
+unfoldable pub sourceAnswer : ℕ → Request → SourceAnswer
+unfolding sourceFigures
+sourceAnswer zero r = S.Known (sourceFigures r)
+sourceAnswer (suc n) r = S.Refused (suc n)
+
+unfoldable pub sourceAnswerOf : Request → SourceAnswer
+unfolding sourceAnswer first sourceRows
+sourceAnswerOf r = sourceAnswer (first (sourceRows r)) r
+
+-- its number, 0 for none
+abbrev pub sourceNumber : SourceAnswer → ℕ
+sourceNumber (S.Known s) = 0
+sourceNumber (S.Refused n) = n
+
+unfoldable pub figureAnswer : ℕ → Figure → FigureAnswer
+figureAnswer zero f = F.Known f
+figureAnswer (suc n) f = F.Refused (suc n)
+
+-- its number, 0 for none
+abbrev pub figureNumber : FigureAnswer → ℕ
+figureNumber (F.Known f) = 0
+figureNumber (F.Refused n) = n
+
+unfoldable pub pathAnswerOf : Request → FigureAnswer
+unfolding figureAnswer first pathRows rrup
+pathAnswerOf r = figureAnswer (first (pathRows r)) (rrup r)
+
+unfoldable pub siteAnswerOf : Request → FigureAnswer
+unfolding figureAnswer first siteRows z25
+siteAnswerOf r = figureAnswer (first (siteRows r)) (z25 r)
+
+-- ---- the whole
+unfoldable pub completed : Request → Completed
+unfolding dip width ztor rrup z25 sizeOf valueOf
+completed r =
+    record {
+      m = sizeOf (r .m);
+      rake = valueOf (r .rake);
+      vs30 = sizeOf (r .vs30);
+      dip = dip r;
+      w = width r;
+      ztor = ztor r;
+      rjb = sizeOf (r .rjb);
+      azimuth = valueOf (r .azimuth);
+      rrup = rrup r;
+      z25 = z25 r;
+    }
+
+unfoldable pub answer : ℕ → Request → Completion
+unfolding completed
+answer zero r = C.Done (completed r)
+answer (suc n) r = C.Refused (suc n)
+
+unfoldable pub completionOf : Request → Completion
+unfolding answer refusal
+completionOf r = answer (refusal r) r
+
+-- ---- what an answer says in document 01's terms: its number, 0 for none, and its figures, zeros beside a refusal
+abbrev pub numberOf : Completion → ℕ
+numberOf (C.Done c) = 0
+numberOf (C.Refused n) = n
+
+abbrev noFigure : Figure
+noFigure = record { value = 0; estimated = false }
+
+unfoldable pub figuresOf : Completion → Completed
+figuresOf (C.Done c) = c
+figuresOf (C.Refused n) =
+    record {
+      m = 0;
+      rake = pos 0;
+      vs30 = 0;
+      dip = noFigure;
+      w = noFigure;
+      ztor = noFigure;
+      rjb = 0;
+      azimuth = pos 0;
+      rrup = noFigure;
+      z25 = noFigure;
+    }

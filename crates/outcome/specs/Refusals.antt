@@ -1,0 +1,88 @@
+-- The table of a request's refusals, in the order tested: a row is a refusal's number and whether its condition holds. A number stands
+-- in several rows where it reads several figures, or a given one and a completed one. Definitions only.
+use Prim.Native.Nat.{ℕ, _+_, _*_}
+use mathlib.Core.Bool.{Bool, not, _&&_}
+use mathlib.Core.List.{[], _∷_, _++_}
+use lib.Dec.{ltb}
+use lib.IntN.{pos, negsuc}
+use Rattle.refusals.specs.Order.{Rows, first}
+use Rattle.refusals.specs.Order as No
+use Rattle.request.specs.declared.Request.{Request}
+use Rattle.request.specs.Fields.{within, allowed, isBlank, sizeOf, valueOf}
+use Rattle.request.specs.Styles.{topMagnitude}
+use Rattle.outcome.specs.Figures.{style, dip, ztor, rrup, z25}
+
+-- ---- the source: the rows that read given figures, then those that read completed ones
+unfoldable pub sourceGiven : Request → Rows
+unfolding within allowed topMagnitude style
+sourceGiven r =
+    (No.rake, not (within (r .rake) (negsuc 179) (pos 180)))
+    ∷ (No.magnitude, not (within (r .m) (pos 400) (topMagnitude (style r))))
+    ∷ (No.vs30, not (within (r .vs30) (pos 150) (pos 1500)))
+    ∷ (No.dip, not (allowed (r .dip) (pos 15) (pos 90)))
+    ∷ (No.width, not (allowed (r .w) (pos 1) (pos 100000)))
+    ∷ (No.hypocentre, not (allowed (r .zhyp) (pos 0) (pos 30000)))
+    ∷ (No.top, not (allowed (r .ztor) (pos 0) (pos 15000)))
+    ∷ []
+
+abbrev pub sourceCompleted : Request → Rows
+sourceCompleted r = (No.top, ltb 15000 (ztor r .value)) ∷ []
+
+unfoldable pub sourceRows : Request → Rows
+unfolding sourceGiven ztor
+sourceRows r = sourceGiven r ++ sourceCompleted r
+
+-- ---- the path
+-- the site is above the rupture, where no distance follows from RJB
+unfoldable pub aboveRupture : Request → Bool
+unfolding isBlank within dip
+aboveRupture r =
+    isBlank (r .rrup) && (ltb (dip r .value) 90 && (within (r .rjb) (pos 0) (pos 0) && within (r .azimuth) (pos 90) (pos 90)))
+
+unfoldable pub pathGiven : Request → Rows
+unfolding within allowed aboveRupture
+pathGiven r =
+    (No.rjb, not (within (r .rjb) (pos 0) (pos 200000)))
+    ∷ (No.azimuth, not (within (r .azimuth) (negsuc 179) (pos 180)))
+    ∷ (No.above, aboveRupture r)
+    ∷ (No.rrup, not (allowed (r .rrup) (pos 0) (pos 200000)))
+    ∷ []
+
+-- a given RRUP is shorter than any way from the site to the top of the rupture
+unfoldable pub tooShort : Request → Bool
+unfolding isBlank sizeOf ztor
+tooShort r =
+    let d : ℕ = sizeOf (r .rrup) + 1 in
+    not (isBlank (r .rrup)) && ltb (d * d) (sizeOf (r .rjb) * sizeOf (r .rjb) + ztor r .value * ztor r .value)
+
+abbrev pub pathCompleted : Request → Rows
+pathCompleted r = (No.rrup, ltb 200000 (rrup r .value)) ∷ (No.tooShort, tooShort r) ∷ []
+
+unfoldable pub pathRows : Request → Rows
+unfolding pathGiven tooShort rrup
+pathRows r = pathGiven r ++ pathCompleted r
+
+-- ---- the site
+unfoldable pub siteGiven : Request → Rows
+unfolding allowed
+siteGiven r =
+    (No.basin, not (allowed (r .z10) (pos 0) (pos 10000)))
+    ∷ (No.basin, not (allowed (r .z15) (pos 0) (pos 10000)))
+    ∷ (No.basin, not (allowed (r .z25) (pos 0) (pos 10000)))
+    ∷ []
+
+abbrev pub siteCompleted : Request → Rows
+siteCompleted r = (No.basin, ltb 10000 (z25 r .value)) ∷ []
+
+unfoldable pub siteRows : Request → Rows
+unfolding siteGiven z25
+siteRows r = siteGiven r ++ siteCompleted r
+
+-- ---- all of them
+unfoldable pub rows : Request → Rows
+unfolding sourceRows pathRows siteRows
+rows r = sourceRows r ++ (pathRows r ++ siteRows r)
+
+unfoldable pub refusal : Request → ℕ
+unfolding first rows
+refusal r = first (rows r)

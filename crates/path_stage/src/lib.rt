@@ -1,0 +1,121 @@
+// The path from the rupture to the site: its length RRUP.
+use outcome::Figure;
+use outcome::FigureAnswer;
+use outcome::Source;
+use outcome::given_figure;
+use request::Field;
+use request::Request;
+use request::is_allowed;
+use request::is_blank;
+use request::is_within;
+use request::size_of;
+use request::value_of;
+use rupture::rupture_distance;
+ghost use mathlib.Core.Path.{_≡_};
+ghost use Prim.Native.Nat.{_≤_};
+ghost use Rattle.request.specs.Fields.{sizeOf};
+ghost use Rattle.outcome.specs.Figures.{dip, ztor, rrup};
+ghost use Rattle.refusals.specs.Order.{first};
+ghost use Rattle.outcome.specs.Refusals.{sourceRows, aboveRupture, pathGiven, tooShort};
+ghost use Rattle.outcome.specs.Answers.{sourceFigures, pathAnswerOf};
+
+// Whether the site is above the rupture, whose completed dip is d: no distance follows from RJB there.
+fn is_above_rupture(r: Request, d: u64) -> bool
+    requires { ⌜ d ≡ dip r .value ⌝ }
+    ensures { λ a. ⌜ a ≡ aboveRupture r ⌝ }
+{
+    let rrup = r.rrup;
+    if !is_blank(rrup) {
+        return false;
+    }
+    if 90 <= d {
+        return false;
+    }
+    let rjb = r.rjb;
+    if !is_within(rjb, 0, 0) {
+        return false;
+    }
+    let azimuth = r.azimuth;
+    is_within(azimuth, 90, 90)
+}
+
+// The first refusal that reads a given figure of the path.
+fn path_refusal(r: Request, d: u64) -> u32
+    requires { ⌜ d ≡ dip r .value ⌝ }
+    ensures { λ n. ⌜ n ≡ first (pathGiven r) ⌝ }
+{
+    let rjb = r.rjb;
+    if !is_within(rjb, 0, 200000) {
+        return refusals::RJB;
+    }
+    let azimuth = r.azimuth;
+    if !is_within(azimuth, -180, 180) {
+        return refusals::AZIMUTH;
+    }
+    if is_above_rupture(r, d) {
+        return refusals::ABOVE;
+    }
+    let rrup = r.rrup;
+    if !is_allowed(rrup, 0, 200000) {
+        return refusals::RRUP;
+    }
+    0
+}
+
+// Whether a given RRUP is too short, even one metre longer, to reach down to the rupture's top z.
+fn is_too_short(r: Request, z: u64) -> bool
+    requires { ⌜ (z ≡ ztor r .value) × (z ≤ 15000) × (sizeOf (r .rjb) ≤ 200000) × (sizeOf (r .rrup) ≤ 200000) ⌝ }
+    ensures { λ a. ⌜ a ≡ tooShort r ⌝ }
+{
+    let rrup = r.rrup;
+    if is_blank(rrup) {
+        return false;
+    }
+    let d = size_of(rrup) + 1;
+    let field = r.rjb;
+    let rjb = size_of(field);
+    d * d < rjb * rjb + z * z
+}
+
+// RRUP of a path whose given figures are in their ranges.
+fn known_path(r: Request, s: Source) -> Figure
+    requires { ⌜ (s ≡ sourceFigures r) × (first (sourceRows r) ≡ 0) × (first (pathGiven r) ≡ 0) ⌝ }
+    ensures { λ f. ⌜ f ≡ rrup r ⌝ }
+{
+    let field = r.rrup;
+    if let Field::Given(_) = field {
+        return given_figure(field);
+    }
+    let given_azimuth = r.azimuth;
+    let azimuth = value_of(given_azimuth);
+    let given_rjb = r.rjb;
+    let rjb = size_of(given_rjb);
+    let dip = s.dip;
+    let w = s.w;
+    let ztor = s.ztor;
+    Figure {
+        value: rupture_distance(dip.value, azimuth, w.value, ztor.value, rjb),
+        estimated: true,
+    }
+}
+
+// RRUP, or the first refusal of the path.
+pub fn complete_path(r: Request, s: Source) -> FigureAnswer
+    requires { ⌜ (s ≡ sourceFigures r) × (first (sourceRows r) ≡ 0) ⌝ }
+    ensures { λ a. ⌜ a ≡ pathAnswerOf r ⌝ }
+{
+    let dip = s.dip;
+    let n = path_refusal(r, dip.value);
+    if n != 0 {
+        return FigureAnswer::Refused(n);
+    }
+    let rrup = known_path(r, s);
+    if 200000 < rrup.value {
+        return FigureAnswer::Refused(refusals::RRUP);
+    }
+    let ztor = s.ztor;
+    if is_too_short(r, ztor.value) {
+        return FigureAnswer::Refused(refusals::TOO_SHORT);
+    }
+    FigureAnswer::Known(rrup)
+}

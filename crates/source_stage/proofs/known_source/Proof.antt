@@ -1,0 +1,84 @@
+-- Each figure is what its function ensures, and its ranges are those of an accepted source. Assumes nothing.
+use borrow.Author.Needs.{needs}
+use Prim.Native.Nat.{ℕ}
+use mathlib.Core.Path.{_≡_, ap, ap₂, _∙_}
+use Rattle.request.specs.declared.Style.{Style}
+use Rattle.request.specs.Fields.{sizeOf}
+use Rattle.rules.specs.Rules.{dipOf}
+use Rattle.rules.specs.Fixed.{widthFixed, topFixed}
+use Rattle.outcome.specs.Figures.{figureOf, style, dip, width, zhypOf, zhyp, ztor}
+use Rattle.outcome.specs.Answers.{sourceFigures}
+use Rattle.outcome.proofs.Ranges.{SourceRange, source-range}
+use Rattle.source_stage.proofs.known_source.Statement.{statement}
+use Rattle.source_stage.proofs.known_source.Tie as tie
+
+style-by-rake-requires : tie.Need-style-by-rake-requires
+style-by-rake-requires c κs = search needs
+
+size-of-requires : tie.Need-size-of-requires
+size-of-requires c κs = search needs
+
+complete-dip-requires : tie.Need-complete-dip-requires
+complete-dip-requires c κs = search needs
+
+style-is : (c : tie.After-style-by-rake) → c .style-by-rake .result ≡ style (c .before .args .r)
+unfolding style
+style-is c = c .style-by-rake .ensures
+
+dip-is : (c : tie.After-complete-dip) → c .complete-dip .result ≡ dip (c .before .before .before .args .r)
+unfolding dip
+dip-is c =
+    c .complete-dip .ensures
+    ∙ ap (λ (s : Style). figureOf (c .before .before .before .args .r .dip) (dipOf s)) (style-is (c .before .before))
+
+complete-width-requires : tie.Need-complete-width-requires
+complete-width-requires c κs = let s = c .before .before .before in
+    let range = source-range (s .args .r) (s .pre) in
+    rw (c .before .size-of .ensures) (range .m-low, range .m-high)
+
+width-is : (c : tie.After-complete-width) → c .complete-width .result ≡ width (c .before .before .before .before .args .r)
+unfolding width
+width-is c =
+    let k = c .before .before in
+    c .complete-width .ensures
+    ∙ ap₂ (λ (s : Style) (m : ℕ). figureOf (k .before .before .args .r .w) (widthFixed s m)) (style-is (k .before)) (k .size-of .ensures)
+
+complete-hypocentre-requires : tie.Need-complete-hypocentre-requires
+complete-hypocentre-requires c κs = let s = c .before .before .before .before in
+    let range = source-range (s .args .r) (s .pre) in
+    rw (c .before .before .size-of .ensures) (range .m-low, range .m-high, range .zhyp-given)
+
+hypocentre-is : (c : tie.After-complete-hypocentre) → c .complete-hypocentre .result ≡ zhyp (c .before .before .before .before .before .args .r)
+unfolding zhyp
+hypocentre-is c =
+    let k = c .before .before .before in
+    c .complete-hypocentre .ensures
+    ∙ ap₂ (λ (s : Style) (m : ℕ). zhypOf (k .before .before .args .r .zhyp) s m) (style-is (k .before)) (k .size-of .ensures)
+
+complete-top-requires : tie.Need-complete-top-requires
+complete-top-requires c κs = let s = c .before .before .before .before .before in
+    let range = source-range (s .args .r) (s .pre) in
+    rw (hypocentre-is c, width-is (c .before), dip-is (c .before .before)) (range .zhyp-high, range .w-high, range .dip-high)
+
+top-is : (c : tie.After-complete-top) → c .complete-top .result ≡ ztor (c .before .before .before .before .before .before .args .r)
+unfolding ztor
+top-is c =
+    let k = c .before in
+    c .complete-top .ensures ∙ rw (hypocentre-is k, width-is (k .before), dip-is (k .before .before))
+
+returns : tie.Need-returns
+unfolding sourceFigures
+returns c = let k = c .before .before in
+    rw (dip-is (k .before), width-is k, top-is c)
+
+pub known-source-spec : {M : Type 1} → statement M
+known-source-spec =
+    tie.close
+    (tie.spec
+    style-by-rake-requires
+    size-of-requires
+    complete-dip-requires
+    complete-width-requires
+    complete-hypocentre-requires
+    complete-top-requires
+    returns)
