@@ -30,7 +30,7 @@ ghost use Rattle.tables.specs.Tables.{coefficientsAt, deviationsAt};
 ghost use Rattle.model.specs.Accuracy.{InRange};
 ghost use Rattle.model.specs.Equations.{most};
 ghost use Rattle.model.specs.Fixed.{rowFixed, lnMedianFixed, noRow};
-ghost use Rattle.model.specs.OfTables.{OfTable2};
+ghost use Rattle.tables.specs.OfTables.{OfTable2};
 ghost use Rattle.terms.specs.Paths.{pathOf};
 ghost use Rattle.sigmas.specs.Settling.{settledOf};
 ghost use Rattle.site.specs.Sharing.{soilOf, sharedOf};

@@ -12,7 +12,7 @@ ghost use lib.IntN.{pos, natAbs};
 ghost use Rattle.exact.specs.Near.{up};
 ghost use Rattle.tables.specs.Tables.{table3};
 ghost use Rattle.model.specs.Fixed.{crossFixed, intraVarianceFixed, sigmaOf};
-ghost use Rattle.model.specs.OfTables.{OfTable3};
+ghost use Rattle.tables.specs.OfTables.{OfTable3};
 ghost use Rattle.sigmas.specs.Settling.{settledOf};
 
 // One, in units of 10^-9.

@@ -19,7 +19,7 @@ ghost use lib.IntN.{natAbs};
 ghost use Rattle.model.specs.Equations.{least, linear};
 ghost use Rattle.model.specs.Accuracy.{InRange};
 ghost use Rattle.model.specs.Fixed.{curveOf, fSiteFixed, alphaFixed, rockPGAFixed};
-ghost use Rattle.model.specs.OfTables.{OfTable2};
+ghost use Rattle.tables.specs.OfTables.{OfTable2};
 ghost use Rattle.site.specs.Sharing.{sharedOf, soilOf};
 
 // What the measures of one k1 see of the soil: ln(V/k1), and below k1 by how much the logarithm and

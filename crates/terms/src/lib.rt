@@ -11,7 +11,7 @@ ghost use lib.IntN.{pos, natAbs};
 ghost use Rattle.model.specs.Equations.{fFltZ};
 ghost use Rattle.model.specs.Accuracy.{InRange};
 ghost use Rattle.model.specs.Fixed.{fMagFixed, fDisFixed, fFltFixed, wallFixed, fHngFixed, deepFixed, fSedFixed, lnSum};
-ghost use Rattle.model.specs.OfTables.{OfTable2};
+ghost use Rattle.tables.specs.OfTables.{OfTable2};
 ghost use Rattle.terms.specs.Paths.{pathOf};
 
 // The logarithm of RRUP² + c6², for the measures of one c6.

@@ -10,10 +10,11 @@ use Rattle.exact.proofs.Signed.{sfits, sfits-abs}
 use Rattle.tables.specs.declared.Coefficients.{Coefficients}
 use Rattle.site.specs.declared.shared.Shared.{Shared}
 use Rattle.model.specs.Fixed.{wallFixed, deepFixed, fSiteFixed, rockPGAFixed, lnSum, lnMedianAtFixed, lnMedianFixed}
-use Rattle.model.specs.OfTables.{OfTable2}
+use Rattle.tables.specs.OfTables.{OfTable2}
 use Rattle.site.specs.Sharing.{sharedOf}
 use Rattle.model.proofs.Median.{rock-is-near, lnMedian-size}
-use Rattle.model.proofs.OfTables.{fair-of, of-row}
+use Rattle.tables.proofs.RowsRead.{of-row}
+use Rattle.model.proofs.Fair.{fair-of}
 use Rattle.model.proofs.Sizes.{fSite-size}
 use Rattle.measures.proofs.ln_median.Statement.{statement}
 use Rattle.measures.proofs.ln_median.Tie as tie

@@ -2,7 +2,7 @@
 use borrow.Author.Needs.{needs}
 use lib.Dec.{lit<}
 use Rattle.model.specs.Equations.{PGA}
-use Rattle.model.proofs.OfTables.{of-row, read-2, read-3}
+use Rattle.tables.proofs.RowsRead.{of-row, read-2, read-3}
 use Rattle.sigmas.proofs.SettledRows.{read-settled}
 use Rattle.measures.proofs.row_at.Statement.{statement}
 use Rattle.measures.proofs.row_at.Tie as tie

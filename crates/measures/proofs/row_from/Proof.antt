@@ -23,7 +23,7 @@ use Rattle.sigmas.specs.Settling.{linearArbitrary, linearTotal, settledOf}
 use Rattle.model.proofs.Fair.{fair-at, spread-at}
 use Rattle.model.proofs.Median.{rock-is-near, lnMedian-size}
 use Rattle.sigmas.proofs.LinearSite.{flat, squareOf, whole-sigma}
-use Rattle.model.proofs.OfTables.{of-row}
+use Rattle.tables.proofs.RowsRead.{of-row}
 use Rattle.model.proofs.Sizes.{alpha-size, by-parts, ln-size, variance-size}
 use Rattle.measures.proofs.row_from.Statement.{statement}
 use Rattle.measures.proofs.row_from.Tie as tie

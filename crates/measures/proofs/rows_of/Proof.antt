@@ -15,7 +15,7 @@ use Rattle.model.specs.Equations.{PGA}
 use Rattle.terms.specs.Paths.{pathOf}
 use Rattle.site.specs.Sharing.{soilOf}
 use Rattle.measures.proofs.FilledRows.{Filled, set-filled, pass-filled, path-again, soil-again}
-use Rattle.model.proofs.OfTables.{of-row, read-2, read-3}
+use Rattle.tables.proofs.RowsRead.{of-row, read-2, read-3}
 use Rattle.sigmas.proofs.SettledRows.{read-settled}
 use Rattle.measures.proofs.rows_of.Statement.{statement}
 use Rattle.measures.proofs.rows_of.Tie as tie

@@ -17,7 +17,7 @@ use Rattle.tables.specs.declared.Deviations.{Deviations}
 use Rattle.model.specs.Fixed.{crossFixed, intraVarianceFixed}
 use Rattle.model.proofs.Fair.{Spread}
 use Rattle.sigmas.proofs.LinearSite.{rock-is, yOf, squareOf, addedOf, flat}
-use Rattle.model.proofs.OfTables.{spread-of}
+use Rattle.model.proofs.Fair.{spread-of}
 use Rattle.model.proofs.Sizes.{y-fits}
 use Rattle.sigmas.proofs.intra_variance.Statement.{statement}
 use Rattle.sigmas.proofs.intra_variance.Tie as tie

@@ -12,8 +12,8 @@ use Rattle.tables.specs.declared.Coefficients.{Coefficients}
 use Rattle.model.specs.declared.Scenario.{Scenario}
 use Rattle.model.specs.Accuracy.{InRange}
 use Rattle.model.specs.Fixed.{fMagFixed, fDisFixed, fFltFixed, fHngFixed, fSedFixed, lnSum}
-use Rattle.model.specs.OfTables.{OfTable2}
-use Rattle.model.proofs.OfTables.{fair-of}
+use Rattle.tables.specs.OfTables.{OfTable2}
+use Rattle.model.proofs.Fair.{fair-of}
 use Rattle.model.proofs.Sizes.{fMag-size, fDis-size, fFlt-size, fHng-size, fSed-size}
 use Rattle.terms.proofs.ln_sum.Statement.{statement}
 use Rattle.terms.proofs.ln_sum.Tie as tie

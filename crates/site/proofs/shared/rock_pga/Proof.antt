@@ -15,7 +15,8 @@ use Rattle.model.specs.declared.Scenario.{Scenario}
 use Rattle.model.specs.Accuracy.{InRange}
 use Rattle.model.specs.Equations.{PGA}
 use Rattle.model.specs.Fixed.{fSiteFixed, lnSum, lnMedianAtFixed, rockPGAFixed}
-use Rattle.model.proofs.OfTables.{fair-of, pga-row}
+use Rattle.tables.proofs.RowsRead.{pga-row}
+use Rattle.model.proofs.Fair.{fair-of}
 use Rattle.model.proofs.Rock.{rock-ln-size}
 use Rattle.model.proofs.Sizes.{linear-site-size}
 use Rattle.site.proofs.shared.rock_pga.Statement.{statement}
