@@ -10,17 +10,16 @@ use mir.Val.{SFits}
 use mir.Facts.{toZ-ofZ}
 use Rattle.exact.proofs.Signed.{sfits, sfits-abs}
 use Rattle.tables.specs.declared.Coefficients.{Coefficients}
-use Rattle.tables.specs.Tables.{coefficientsAt}
+use Rattle.tables.specs.Tables.{PGA, coefficientsAt}
 use Rattle.model.specs.declared.Scenario.{Scenario}
 use Rattle.model.specs.Accuracy.{InRange}
-use Rattle.model.specs.Equations.{PGA}
 use Rattle.model.specs.Fixed.{fSiteFixed, lnSum, lnMedianAtFixed, rockPGAFixed}
 use Rattle.tables.proofs.RowsRead.{pga-row}
 use Rattle.model.proofs.Fair.{fair-of}
 use Rattle.model.proofs.Rock.{rock-ln-size}
 use Rattle.model.proofs.Sizes.{linear-site-size}
-use Rattle.site.proofs.shared.rock_pga.Statement.{statement}
-use Rattle.site.proofs.shared.rock_pga.Tie as tie
+use Rattle.site.proofs.rock.rock_pga.Statement.{statement}
+use Rattle.site.proofs.rock.rock_pga.Tie as tie
 
 site-small : (c : tie.Start) → natAbs (fSiteFixed (c .args .c) 1100 0) ≤ 13100000000
 site-small c =
@@ -39,7 +38,7 @@ ln-sum-requires : tie.Need-ln-sum-requires
 ln-sum-requires c κs =
     let s = c .before in
     simp (c .f-site-linear .ensures, toZ-ofZ (site-fits s))
-    (pga-row (s .args .c) (s .pre .0), s .pre .1, s .pre .2, s .pre .3, s .pre .4, site-small s)
+    (pga-row (s .args .c) (s .pre .0), s .pre .1, s .pre .2, s .pre .3, site-small s)
 
 -- the sum is the definition's
 sum-is :
