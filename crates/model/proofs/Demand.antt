@@ -15,7 +15,7 @@ use Rattle.model.specs.declared.Scenario.{Scenario}
 use Rattle.model.specs.Equations.{E24, alpha, intraVariance, median, intra, total, arbitrary, rockPGA, joined, inter}
 use Rattle.model.specs.Accuracy.{InRange, FineInRange, exactOf, Accurate}
 use Rattle.exact.proofs.Signed.{by-sign}
-use Rattle.model.specs.Fixed.{alphaFixed, varianceFixed, fineFixed, rowFixed, rockPGAFixed, intraVarianceFixed}
+use Rattle.model.specs.Fixed.{squaredFixed, alphaFixed, varianceFixed, fineFixed, rowFixed, rockPGAFixed, intraVarianceFixed}
 use Rattle.model.proofs.Alpha.{alpha-near, alphaLow, alpha-between}
 use Rattle.model.proofs.Between.{Between}
 use Rattle.model.proofs.SigmaNear.{joined-near}
@@ -74,10 +74,10 @@ module _ (i : ℕ) (x : Scenario) (h : i < 24) (r : InRange x) where
 
   -- with sums of which each is 1 unit less sure than what it adds to
   abbrev t2 : ℕ
-  t2 = deviationsAt i .t * deviationsAt i .t * 1000
+  t2 = squaredFixed (deviationsAt i .t)
 
   abbrev sC2 : ℕ
-  sC2 = deviationsAt i .sC * deviationsAt i .sC * 1000
+  sC2 = squaredFixed (deviationsAt i .sC)
 
   -- what stands under the root of the total sigma
   exactTotal : ℕ

@@ -114,6 +114,10 @@ unfolding lnMedianAtFixed rockPGAFixed coefficientsAt
 lnMedianFixed i x = lnMedianAtFixed (coefficientsAt i) x (x .vs30) (rockPGAFixed x)
 
 -- ---- the variances
+-- a deviation of Table 3 squared
+abbrev pub squaredFixed : ℕ → ℕ
+squaredFixed n = n * n * 1000
+
 -- a/(a + b)
 abbrev pub shareFixed : ℕ → ℕ → ℕ
 shareFixed a b = a * E9 / (a + b)
@@ -140,7 +144,7 @@ unfoldable pub intraVarianceFixed : Deviations → ℤ → ℤ
 unfolding mulDiv atBaseFixed crossFixed deviationsAt
 intraVarianceFixed d a =
     let y : ℤ = mulDiv (pos (atBaseFixed (deviationsAt PGA .s))) a (pos E9) in
-    pos (d .s * d .s * 1000) +ℤ mulDiv y (y +ℤ pos (crossFixed d)) (pos E9)
+    pos (squaredFixed (d .s)) +ℤ mulDiv y (y +ℤ pos (crossFixed d)) (pos E9)
 
 unfoldable pub varianceFixed : ℕ → Scenario → ℕ
 unfolding intraVarianceFixed alphaFixed rockPGAFixed coefficientsAt deviationsAt
@@ -151,14 +155,13 @@ unfoldable pub fineFixed : ℕ → Scenario → Fine
 unfolding lnMedianFixed varianceFixed deviationsAt
 fineFixed i x =
     let v : ℕ = varianceFixed i x in
-    let t : ℕ = deviationsAt i .t in
-    let sC : ℕ = deviationsAt i .sC in
+    let d : Deviations = deviationsAt i in
     record {
       ln = lnMedianFixed i x;
       intra = v;
-      t = t;
-      total = v + t * t * 1000;
-      arbitrary = v + t * t * 1000 + sC * sC * 1000;
+      t = d .t;
+      total = v + squaredFixed (d .t);
+      arbitrary = v + squaredFixed (d .t) + squaredFixed (d .sC);
     }
 
 -- ---- what is reported

@@ -9,22 +9,22 @@ use Rattle.model.specs.Fixed.{sigmaOf}
 use Rattle.sigmas.proofs.sigma_of.Statement.{statement}
 use Rattle.sigmas.proofs.sigma_of.Tie as tie
 
-mul-long-root : tie.Need-mul-long-root
-mul-long-root c = search needs
+mul-whole-root : tie.Need-mul-whole-root
+mul-whole-root c = search needs
 
-long-root-requires : tie.Need-long-root-requires
-long-root-requires c κs = search needs
+whole-root-requires : tie.Need-whole-root-requires
+whole-root-requires c κs = search needs
 
 -- twice the sigma is below 3.099
 root-lt : (v : ℕ) → v ≤ 2400000000 → root (4000 * v) < 3099000
 root-lt v h = side-lt (root (4000 * v)) 3099000 (omega (arith, root-is (4000 * v) .low))
 
 add-result : tie.Need-add-result
-add-result c = record { fits = omega (arith, c .long-root .ensures, root-lt (c .before .args .v) (c .before .pre)) }
+add-result c = record { fits = omega (arith, c .whole-root .ensures, root-lt (c .before .args .v) (c .before .pre)) }
 
 returns : tie.Need-returns
 unfolding sigmaOf
-returns c = ap (λ (t : ℕ). (t + 1) / 2) (c .long-root .ensures)
+returns c = ap (λ (t : ℕ). (t + 1) / 2) (c .whole-root .ensures)
 
 pub sigma-of-spec : {M : Type 1} → statement M
-sigma-of-spec = tie.close (tie.spec mul-long-root long-root-requires add-result returns)
+sigma-of-spec = tie.close (tie.spec mul-whole-root whole-root-requires add-result returns)
