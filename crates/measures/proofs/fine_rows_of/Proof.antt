@@ -8,19 +8,20 @@ use mathlib.Core.Logic.{⊎-elim}
 use native.Mathlib.Omega.{arith}
 use lib.Dec.{lit<}
 use Rattle.model.specs.declared.Scenario.{Scenario}
-use Rattle.model.specs.declared.Row.{Row}
+use Rattle.model.specs.declared.Fine.{Fine}
 use Rattle.site.specs.declared.Soil.{Soil}
 use Rattle.terms.specs.declared.Path.{Path}
-use Rattle.model.specs.Equations.{PGA}
+use Rattle.tables.specs.Tables.{PGA}
 use Rattle.terms.specs.Paths.{pathOf}
 use Rattle.site.specs.Sharing.{soilOf}
 use Rattle.measures.proofs.FilledRows.{Filled, set-filled, pass-filled, path-again, soil-again}
 use Rattle.tables.proofs.RowsRead.{of-row, read-2, read-3}
 use Rattle.sigmas.proofs.SettledRows.{read-settled}
-use Rattle.measures.proofs.rows_of.Statement.{statement}
-use Rattle.measures.proofs.rows_of.Tie as tie
+use Rattle.measures.proofs.MeasureRead.{of-rows}
+use Rattle.measures.proofs.fine_rows_of.Statement.{statement}
+use Rattle.measures.proofs.fine_rows_of.Tie as tie
 
-record Turn (x : Scenario) (rows : List Row) (path : Path) (soil : Soil) (k : ℕ) : Type 0 where
+record Turn (x : Scenario) (rows : List Fine) (path : Path) (soil : Soil) (k : ℕ) : Type 0 where
   filled : Filled x rows k
   path-is : path ≡ pathOf (path .c6) x
   soil-is : soil ≡ soilOf (soil .k1) x
@@ -28,17 +29,17 @@ record Turn (x : Scenario) (rows : List Row) (path : Path) (soil : Soil) (k : �
 
 -- at equal values
 same-turn :
-    (x : Scenario) (k : ℕ) {rows rows' : List Row} {path path' : Path} {soil soil' : Soil} → rows ≡ rows' → path ≡ path' → soil ≡ soil'
+    (x : Scenario) (k : ℕ) {rows rows' : List Fine} {path path' : Path} {soil soil' : Soil} → rows ≡ rows' → path ≡ path' → soil ≡ soil'
     → Turn x rows' path' soil' k → Turn x rows path soil k
 same-turn x k {rows} {rows'} {path} {path'} {soil} {soil'} e f g t =
-    subst (λ (r : List Row). Turn x r path soil k) (sym e)
+    subst (λ (r : List Fine). Turn x r path soil k) (sym e)
     (subst (λ (p : Path). Turn x rows' p soil k) (sym f) (subst (λ (s : Soil). Turn x rows' path' s k) (sym g) t))
 
 abbrev Inv-loop : tie.InvT-loop
-Inv-loop x rows₀ table2 table3 settled path₀ s soil₀ k₀ rows path soil k = Turn x rows path soil k
+Inv-loop x rows₀ table2 table3 settled f path₀ rock soil₀ k₀ rows path soil k = Turn x rows path soil k
 
 abbrev μ-loop : tie.MeasureT-loop
-μ-loop x rows₀ table2 table3 settled path₀ s soil₀ k₀ rows path soil k = 24 - k
+μ-loop x rows₀ table2 table3 settled f path₀ rock soil₀ k₀ rows path soil k = 24 - k
 
 -- ---- before the loop
 all-coefficients-requires : tie.Need-all-coefficients-requires Inv-loop μ-loop
@@ -50,48 +51,51 @@ all-deviations-requires c κs = search needs
 all-settled-requires : tie.Need-all-settled-requires Inv-loop μ-loop
 all-settled-requires c κs = search needs
 
-array-copy-out-pga : tie.Need-array-copy-out-pga Inv-loop μ-loop
-array-copy-out-pga c = search needs
+array-copy-out-c0 : tie.Need-array-copy-out-c0 Inv-loop μ-loop
+array-copy-out-c0 c = search needs
 
-array-copy-out-base : tie.Need-array-copy-out-base Inv-loop μ-loop
-array-copy-out-base c = search needs
+array-copy-out-d0 : tie.Need-array-copy-out-d0 Inv-loop μ-loop
+array-copy-out-d0 c = search needs
 
-array-copy-out-known : tie.Need-array-copy-out-known Inv-loop μ-loop
-array-copy-out-known c = search needs
+array-copy-out-known0 : tie.Need-array-copy-out-known0 Inv-loop μ-loop
+array-copy-out-known0 c = search needs
+
+factors-of-requires : tie.Need-factors-of-requires Inv-loop μ-loop
+factors-of-requires c κs = search needs
 
 path-of-requires : tie.Need-path-of-requires Inv-loop μ-loop
 path-of-requires c κs =
-    let t = c .before .before .before .before .before in
+    let t = c .before .before .before .before .before .before in
     (of-row PGA _ (lit< tt) (read-2 PGA (t .all-coefficients .ensures)), t .before .pre)
 
-shared-of-requires : tie.Need-shared-of-requires Inv-loop μ-loop
-shared-of-requires c κs =
-    let t = c .before .before .before .before .before .before in (
+rock-of-requires : tie.Need-rock-of-requires Inv-loop μ-loop
+rock-of-requires c κs =
+    let f = c .before in
+    let t = f .before .before .before .before .before .before in (
       read-2 PGA (t .all-coefficients .ensures),
       t .before .pre,
+      f .factors-of .ensures,
       c .path-of .ensures,
     )
 
 soil-of-requires : tie.Need-soil-of-requires Inv-loop μ-loop
 soil-of-requires c κs =
-    let t = c .before .before .before .before .before .before .before in
-    (of-row PGA _ (lit< tt) (read-2 PGA (t .all-coefficients .ensures)), t .before .pre, c .shared-of .ensures)
+    let t = c .before .before .before .before .before .before .before .before in
+    (of-row PGA _ (lit< tt) (read-2 PGA (t .all-coefficients .ensures)), t .before .pre, c .rock-of .ensures)
 
-row-from-requires : tie.Need-row-from-requires Inv-loop μ-loop
-row-from-requires c κs =
-    let h = c .before in
-    let p = h .before in
-    let f = p .before .before .before .before in
-    let d = f .before in
+fine-from-requires : tie.Need-fine-from-requires Inv-loop μ-loop
+fine-from-requires c κs =
+    let p = c .before .before in
+    let f = p .before in
+    let k = f .before .before .before .before in
+    let d = k .before in
     let t = d .before in (
-      lit< tt,
-      read-2 PGA (t .all-coefficients .ensures),
-      read-3 PGA (d .all-deviations .ensures),
+      of-rows PGA _ _ _ (lit< tt) (read-2 PGA (t .all-coefficients .ensures)) (read-3 PGA (d .all-deviations .ensures))
+          (read-settled PGA (k .all-settled .ensures)),
       t .before .pre,
-      h .shared-of .ensures,
+      f .factors-of .ensures,
       p .path-of .ensures,
       c .soil-of .ensures,
-      read-settled PGA (f .all-settled .ensures),
     )
 
 array-set-from-rows : tie.Need-array-set-from-rows Inv-loop μ-loop
@@ -99,9 +103,9 @@ array-set-from-rows c = search needs
 
 loop-holds : tie.Need-loop-holds Inv-loop μ-loop
 loop-holds c =
-    let x = c .before .before .before .before .before .before .before .before .before .before .args .x in
+    let x = c .before .before .before .before .before .before .before .before .before .before .before .args .x in
     record {
-      filled = record { whole = refl; pga = c .row-from .ensures; below = λ j l. absurd (omega (arith, l)) };
+      filled = record { whole = refl; pga = c .fine-from .ensures; below = λ j l. absurd (omega (arith, l)) };
       path-is = path-again x _ _ (c .before .before .before .path-of .ensures);
       soil-is = soil-again x _ _ (c .before .soil-of .ensures);
       end = omega arith;
@@ -120,18 +124,18 @@ mul-d c = search needs
 array-copy-out-d : tie.Need-array-copy-out-d Inv-loop μ-loop
 array-copy-out-d c = search needs
 
-mul-f : tie.Need-mul-f Inv-loop μ-loop
-mul-f c = search needs
+mul-known : tie.Need-mul-known Inv-loop μ-loop
+mul-known c = search needs
 
-array-copy-out-f : tie.Need-array-copy-out-f Inv-loop μ-loop
-array-copy-out-f c = search needs
+array-copy-out-known : tie.Need-array-copy-out-known Inv-loop μ-loop
+array-copy-out-known c = search needs
 
 next-path-requires : tie.Need-next-path-requires Inv-loop μ-loop
 next-path-requires c κs =
     let l = c .before .before .before .before in
     let k = l .before .loop .k in
     let h = l .before .before .before .before in
-    let t = h .before .before .before .before .before .before .before in (
+    let t = h .before .before .before .before .before .before .before .before in (
       of-row k _ (l .loop-test .taken) (read-2 k (t .all-coefficients .ensures)),
       t .before .pre,
       l .before .loop .inv .path-is,
@@ -142,29 +146,27 @@ next-soil-requires c κs =
     let l = c .before .before .before .before .before in
     let k = l .before .loop .k in
     let h = l .before .before .before .before in
-    let t = h .before .before .before .before .before .before .before in (
+    let t = h .before .before .before .before .before .before .before .before in (
       of-row k _ (l .loop-test .taken) (read-2 k (t .all-coefficients .ensures)),
       t .before .pre,
-      h .shared-of .ensures,
+      h .rock-of .ensures,
       l .before .loop .inv .soil-is,
     )
 
-row-from-requires-2 : tie.Need-row-from-requires-2 Inv-loop μ-loop
-row-from-requires-2 c κs =
+fine-from-requires-2 : tie.Need-fine-from-requires-2 Inv-loop μ-loop
+fine-from-requires-2 c κs =
     let l = c .before .before .before .before .before .before in
     let k = l .before .loop .k in
-    let h = l .before .before .before .before in
-    let f = h .before .before .before .before .before in
-    let d = f .before in
+    let f = l .before .before .before .before .before .before in
+    let n = f .before .before .before .before in
+    let d = n .before in
     let t = d .before in (
-      l .loop-test .taken,
-      read-2 k (t .all-coefficients .ensures),
-      read-3 k (d .all-deviations .ensures),
+      of-rows k _ _ _ (l .loop-test .taken) (read-2 k (t .all-coefficients .ensures)) (read-3 k (d .all-deviations .ensures))
+          (read-settled k (n .all-settled .ensures)),
       t .before .pre,
-      h .shared-of .ensures,
+      f .factors-of .ensures,
       c .before .next-path .ensures,
       c .next-soil .ensures,
-      read-settled k (f .all-settled .ensures),
     )
 
 mul-rows : tie.Need-mul-rows Inv-loop μ-loop
@@ -183,7 +185,7 @@ loop-again : tie.Need-loop-again Inv-loop μ-loop
 loop-again c =
     let t = c .before in
     let l = t .before in
-    let x = l .before .before .before .before .before .before .before .before .before .before .before .args .x in
+    let x = l .before .before .before .before .before .before .before .before .before .before .before .before .args .x in
     let k = l .loop .k in
     ⊎-elim
     (λ w.
@@ -209,8 +211,8 @@ returns c =
     let t = c .before .loop .inv in
     (t .filled .whole, λ k h. t .filled .below k (omega (arith, h, c .loop-test .left)))
 
-pub rows-of-spec : {M : Type 1} → statement M
-rows-of-spec =
+pub fine-rows-of-spec : {M : Type 1} → statement M
+fine-rows-of-spec =
     tie.close
     (tie.spec
     Inv-loop
@@ -218,24 +220,25 @@ rows-of-spec =
     all-coefficients-requires
     all-deviations-requires
     all-settled-requires
-    array-copy-out-pga
-    array-copy-out-base
-    array-copy-out-known
+    array-copy-out-c0
+    array-copy-out-d0
+    array-copy-out-known0
+    factors-of-requires
     path-of-requires
-    shared-of-requires
+    rock-of-requires
     soil-of-requires
-    row-from-requires
+    fine-from-requires
     array-set-from-rows
     loop-holds
     mul-c
     array-copy-out-c
     mul-d
     array-copy-out-d
-    mul-f
-    array-copy-out-f
+    mul-known
+    array-copy-out-known
     next-path-requires
     next-soil-requires
-    row-from-requires-2
+    fine-from-requires-2
     mul-rows
     array-set-from-rows-2
     add-k
