@@ -112,13 +112,13 @@ fn all_shown_of(fine: [Fine; 24]) -> [Shown; 24]
     let mut rows = [none; 24];
     let table3 = all_deviations();
     let settled = all_settled();
-    let mut k = 0usize;
-    while k < MEASURES {
-        let f = fine[k];
-        let d = table3[k];
-        let known = settled[k];
-        rows[k] = shown_of(f, d, known);
-        k += 1;
+    let mut i = 0usize;
+    while i < MEASURES {
+        let row = fine[i];
+        let d = table3[i];
+        let known = settled[i];
+        rows[i] = shown_of(row, d, known);
+        i += 1;
     }
     rows
 }

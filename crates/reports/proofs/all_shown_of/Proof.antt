@@ -14,10 +14,10 @@ use Rattle.reports.proofs.all_shown_of.Statement.{statement}
 use Rattle.reports.proofs.all_shown_of.Tie as tie
 
 abbrev Inv-loop : tie.InvT-loop
-Inv-loop fine rows₀ table3 settled k₀ rows k = Filled noShown (λ (j : ℕ). shownOf (report (getD fine j noFine))) rows k
+Inv-loop fine rows₀ table3 settled i₀ rows i = Filled noShown (λ (j : ℕ). shownOf (report (getD fine j noFine))) rows i
 
 abbrev μ-loop : tie.MeasureT-loop
-μ-loop fine rows₀ table3 settled k₀ rows k = measures - k
+μ-loop fine rows₀ table3 settled i₀ rows i = measures - i
 
 all-deviations-requires : tie.Need-all-deviations-requires Inv-loop μ-loop
 all-deviations-requires c κs = search needs
@@ -28,11 +28,11 @@ all-settled-requires c κs = search needs
 loop-holds : tie.Need-loop-holds Inv-loop μ-loop
 loop-holds c = record { whole = refl; end = omega arith; below = λ j l. absurd (omega (arith, l)) }
 
-mul-f : tie.Need-mul-f Inv-loop μ-loop
-mul-f c = search needs
+mul-row : tie.Need-mul-row Inv-loop μ-loop
+mul-row c = search needs
 
-array-copy-out-f : tie.Need-array-copy-out-f Inv-loop μ-loop
-array-copy-out-f c = search needs
+array-copy-out-row : tie.Need-array-copy-out-row Inv-loop μ-loop
+array-copy-out-row c = search needs
 
 mul-d : tie.Need-mul-d Inv-loop μ-loop
 mul-d c = search needs
@@ -49,7 +49,7 @@ array-copy-out-known c = search needs
 shown-of-requires : tie.Need-shown-of-requires Inv-loop μ-loop
 shown-of-requires c κs =
     let l = c .before .before .before in
-    let k = l .before .loop .k in
+    let k = l .before .loop .i in
     let n = l .before .before in
     let d = n .before in
     let s = d .before in
@@ -65,8 +65,8 @@ mul-rows c = search needs
 array-set-from-rows : tie.Need-array-set-from-rows Inv-loop μ-loop
 array-set-from-rows c = c .before .before .before .before .loop-test .taken
 
-add-k : tie.Need-add-k Inv-loop μ-loop
-add-k c = search needs
+add-i : tie.Need-add-i Inv-loop μ-loop
+add-i c = search needs
 
 loop-less : tie.Need-loop-less Inv-loop μ-loop
 loop-less c = omega (arith, c .before .before .before .before .loop-test .taken)
@@ -75,7 +75,7 @@ loop-again : tie.Need-loop-again Inv-loop μ-loop
 loop-again c =
     let i = c .before .before .before .before in
     let l = i .before in
-    set-filled noShown _ (l .loop .rows) (l .loop .k) _ (i .loop-test .taken) (c .shown-of .ensures) (l .loop .inv)
+    set-filled noShown _ (l .loop .rows) (l .loop .i) _ (i .loop-test .taken) (c .shown-of .ensures) (l .loop .inv)
 
 returns : tie.Need-returns Inv-loop μ-loop
 returns c =
@@ -91,8 +91,8 @@ all-shown-of-spec =
     all-deviations-requires
     all-settled-requires
     loop-holds
-    mul-f
-    array-copy-out-f
+    mul-row
+    array-copy-out-row
     mul-d
     array-copy-out-d
     mul-known
@@ -100,7 +100,7 @@ all-shown-of-spec =
     shown-of-requires
     mul-rows
     array-set-from-rows
-    add-k
+    add-i
     loop-less
     loop-again
     returns)
