@@ -17,7 +17,7 @@ unfolding answerTo ascii toLine fieldsOf spaceAt inFront fieldOf given figureOf 
 listing = (refl, refl, refl, refl, refl)
 
 line-of-a-measure :
-    rowLine 21 (record { ln = negsuc 1234; median = 2909; intra = 478; inter = 219; total = 525; arbitrary = 551 })
+    rowLine 21 (record { ln = negsuc 1234; median = 2909; sigma = 525 })
     ≡ ascii "21 -1235 2909 525\n"
 unfolding rowLine ascii renderSigned render digitsIn
 line-of-a-measure = refl

@@ -3,21 +3,21 @@
 use Prim.Native.Nat.{ℕ, zero, suc, _*_, _≤_, _<_}
 use mathlib.Core.Path.{_≡_, refl, ap}
 use mathlib.Core.Bool.{Bool, true, false}
-use mathlib.Core.List.{List, [], _∷_}
+use mathlib.Core.List.{List}
 use native.Mathlib.Omega.{arith}
 use lib.Dec.{eqb}
 use lib.ListN.{length, getD, length-append}
 use borrow.Author.Tests.{eqb-true, eqb-false}
 use Rattle.request.specs.declared.Request.{Request}
-use Rattle.outcome.specs.Refusals.{refusal}
+use Rattle.outcome.specs.Refusals.{rows, refusal}
 use Rattle.outcome.specs.Answers.{completed, answer, completionOf}
 use Rattle.outcome.proofs.ExactlyWhen.{stages, number-is, number-most}
 use Rattle.outcome.proofs.Ranges.{source-range, source-given, top-range}
 use Rattle.outcome.proofs.SentBackWhole.{rrup-high, site-rows}
-use Rattle.model.specs.declared.Row.{Row}
-use Rattle.model.specs.Fixed.{noRow}
-use Rattle.prediction.specs.Spectra.{Small, spectrumOf}
-use Rattle.prediction.proofs.DemandThree.{rows-small, number-handed-on}
+use Rattle.model.specs.declared.Shown.{Shown}
+use Rattle.model.specs.Fixed.{noShown}
+use Rattle.prediction.specs.Spectra.{shownSpectrumOf}
+use Rattle.prediction.proofs.DemandThree.{ShownSmall, shown-rows-small, shown-number, number-handed-on}
 use Rattle.text.specs.declared.read.Line.{Line}
 use Rattle.text.specs.declared.read.Line.the-variants as L
 use Rattle.text.specs.Grammar.{lineOf}
@@ -61,7 +61,7 @@ completion-short r = go (refusal r) refl
     go zero e = ok-short r e
     go (suc n) e = no-short (suc n) (omega (arith, number-most r))
 
-row-short : (k : ℕ) (row : Row) → k < 24 → Small row → length (rowLine k row) ≤ most
+row-short : (k : ℕ) (row : Shown) → k < 24 → ShownSmall row → length (rowLine k row) ≤ most
 row-short k row h b =
     omega (
       arith,
@@ -69,35 +69,35 @@ row-short k row h b =
       length-render 1 k (omega arith),
       length-signed 7 (row .ln) (omega (arith, b .ln)),
       length-render 15 (row .median) (omega (arith, b .median)),
-      length-render 6 (row .total) (omega (arith, b .total)),
+      length-render 6 (row .sigma) (omega (arith, b .sigma)),
     )
 
-rows-short : (rows : List Row) → ((k : ℕ) → k < 24 → Small (getD rows k noRow)) → (n : ℕ) → n ≤ 24 → length (rowLines n rows) ≤ n * most
+rows-short : (rows : List Shown) → ((k : ℕ) → k < 24 → ShownSmall (getD rows k noShown)) → (n : ℕ) → n ≤ 24 → length (rowLines n rows) ≤ n * most
 unfolding rowLines
 rows-short rows b zero h = omega arith
 rows-short rows b (suc n) h =
     omega (
       arith,
       rows-short rows b n (omega arith),
-      length-append (rowLines n rows) (rowLine n (getD rows n noRow)),
-      row-short n (getD rows n noRow) (omega arith) (b n (omega arith)),
+      length-append (rowLines n rows) (rowLine n (getD rows n noShown)),
+      row-short n (getD rows n noShown) (omega arith) (b n (omega arith)),
     )
 
-spectrum-short : (r : Request) → length (spectrumLines (spectrumOf r)) ≤ longestAnswer S.Prediction
-spectrum-short r = go (eqb (spectrumOf r .refusal) 0) refl
+spectrum-short : (r : Request) → length (spectrumLines (shownSpectrumOf r)) ≤ longestAnswer S.Prediction
+spectrum-short r = go (eqb (shownSpectrumOf r .refusal) 0) refl
   where
-    go : (t : Bool) → eqb (spectrumOf r .refusal) 0 ≡ t → length (spectrumLines (spectrumOf r)) ≤ longestAnswer S.Prediction
+    go : (t : Bool) → eqb (shownSpectrumOf r .refusal) 0 ≡ t → length (spectrumLines (shownSpectrumOf r)) ≤ longestAnswer S.Prediction
     go true e =
         omega (
           arith,
-          ap length (good-lines (spectrumOf r) (eqb-true (spectrumOf r .refusal) 0 e)),
-          rows-short (spectrumOf r .rows) (rows-small r) 24 (omega arith),
+          ap length (good-lines (shownSpectrumOf r) (eqb-true (shownSpectrumOf r .refusal) 0 e)),
+          rows-short (shownSpectrumOf r .rows) (shown-rows-small r) 24 (omega arith),
         )
     go false e =
         omega (
           arith,
-          ap length (refused-line (spectrumOf r) (eqb-false (spectrumOf r .refusal) 0 e)),
-          no-short (spectrumOf r .refusal) (omega (arith, number-handed-on r, number-is r, number-most r)),
+          ap length (refused-line (shownSpectrumOf r) (eqb-false (shownSpectrumOf r .refusal) 0 e)),
+          no-short (shownSpectrumOf r .refusal) (omega (arith, shown-number r, number-handed-on r, number-is r, number-most r)),
         )
 
 -- ---- the answers

@@ -8,9 +8,9 @@ use native.Mathlib.Numerals.{add-one}
 use borrow.Author.Tests.{eq-eqb, ne-eqb, ltb-true, ltb-false}
 use lib.Dec.{ltb}
 use lib.ListN.{length, getD, length-append}
-use Rattle.model.specs.declared.Row.{Row}
-use Rattle.model.specs.Fixed.{noRow}
-use Rattle.prediction.specs.declared.Spectrum.{Spectrum}
+use Rattle.model.specs.declared.Shown.{Shown}
+use Rattle.model.specs.Fixed.{noShown}
+use Rattle.prediction.specs.declared.shown.ShownSpectrum.{ShownSpectrum}
 use Rattle.text.specs.Grammar.{space}
 use Rattle.text.specs.Render.{render, renderSigned, Written}
 use Rattle.text.proofs.PutLaws.{room-after, then}
@@ -19,22 +19,22 @@ use Rattle.lines.proofs.LineLaws.{length-ended}
 use Rattle.answer.specs.RowLines.{rowLine, rowLines, spectrumLines}
 
 pub length-row :
-    (k : ℕ) (r : Row)
+    (k : ℕ) (r : Shown)
     → length (rowLine k r)
-    ≡ length (render k) + length (renderSigned (r .ln)) + length (render (r .median)) + length (render (r .total)) + 4
+    ≡ length (render k) + length (renderSigned (r .ln)) + length (render (r .median)) + length (render (r .sigma)) + 4
 unfolding rowLine
 length-row k r =
     simp length-append
-    (omega (arith, length-ended k space, length-ended (r .median) space, length-ended (r .total) lf))
+    (omega (arith, length-ended k space, length-ended (r .median) space, length-ended (r .sigma) lf))
 
 -- ---- one line after another
-module _ (rows : List Row) where
-  pub rows-next : (k : ℕ) → rowLines (k + 1) rows ≡ rowLines k rows ++ rowLine k (getD rows k noRow)
+module _ (rows : List Shown) where
+  pub rows-next : (k : ℕ) → rowLines (k + 1) rows ≡ rowLines k rows ++ rowLine k (getD rows k noShown)
   unfolding rowLines
   rows-next k = rw (add-one k)
 
-  pub length-next : (k : ℕ) → length (rowLines (k + 1) rows) ≡ length (rowLines k rows) + length (rowLine k (getD rows k noRow))
-  length-next k = rw (rows-next k) (length-append (rowLines k rows) (rowLine k (getD rows k noRow)))
+  pub length-next : (k : ℕ) → length (rowLines (k + 1) rows) ≡ length (rowLines k rows) + length (rowLine k (getD rows k noShown))
+  length-next k = rw (rows-next k) (length-append (rowLines k rows) (rowLine k (getD rows k noShown)))
 
   -- fewer lines are no longer than more
   pub fewer : (k n : ℕ) → k ≤ n → length (rowLines k rows) ≤ length (rowLines n rows)
@@ -44,21 +44,21 @@ module _ (rows : List Row) where
     where
       go : (t : Bool) → ltb n k ≡ t → (k ≤ n → length (rowLines k rows) ≤ length (rowLines n rows)) → length (rowLines k rows) ≤ length (rowLines (suc n) rows)
       go true e ih = let same : k ≡ suc n = omega (arith, ltb-true n k e) in rw same (omega arith)
-      go false e ih = omega (arith, ih (ltb-false n k e), length-append (rowLines n rows) (rowLine n (getD rows n noRow)))
+      go false e ih = omega (arith, ih (ltb-false n k e), length-append (rowLines n rows) (rowLine n (getD rows n noShown)))
 
   -- the next line behind those written, where all have room
   module _ {b : List ℕ} {k at : ℕ} {out : List ℕ} (w : Written b 0 (rowLines k rows) at out) (more : k < 24) (room : length (rowLines 24 rows) ≤ length b) where
-    both : 0 + length (rowLines k rows ++ rowLine k (getD rows k noRow)) ≤ length b
+    both : 0 + length (rowLines k rows ++ rowLine k (getD rows k noShown)) ≤ length b
     both = omega (arith, fewer (k + 1) 24 (omega arith), ap length (rows-next k))
 
-    pub row-room : at + length (rowLine k (getD rows k noRow)) ≤ length out
-    row-room = room-after w (rowLine k (getD rows k noRow)) both
+    pub row-room : at + length (rowLine k (getD rows k noShown)) ≤ length out
+    row-room = room-after w (rowLine k (getD rows k noShown)) both
 
-    pub row-then : {r : ℕ} {out₁ : List ℕ} → Written out at (rowLine k (getD rows k noRow)) r out₁ → Written b 0 (rowLines (k + 1) rows) r out₁
-    row-then v = rw (rows-next k) (then w (rowLine k (getD rows k noRow)) both v)
+    pub row-then : {r : ℕ} {out₁ : List ℕ} → Written out at (rowLine k (getD rows k noShown)) r out₁ → Written b 0 (rowLines (k + 1) rows) r out₁
+    row-then v = rw (rows-next k) (then w (rowLine k (getD rows k noShown)) both v)
 
 -- ---- the lines of a spectrum
-module _ (s : Spectrum) where
+module _ (s : ShownSpectrum) where
   pub refused-line : (s .refusal ≡ 0 → ⊥) → spectrumLines s ≡ noLine (s .refusal)
   unfolding spectrumLines
   refused-line h = rw (ne-eqb (s .refusal) 0 h)

@@ -4,7 +4,7 @@ use mathlib.Core.Path.{_≡_}
 use mathlib.Core.List.{List}
 use Rattle.request.specs.declared.Request.{Request}
 use Rattle.outcome.specs.Answers.{completionOf}
-use Rattle.prediction.specs.Spectra.{spectrumOf}
+use Rattle.prediction.specs.Spectra.{shownSpectrumOf}
 use Rattle.text.specs.declared.read.Line.the-variants as L
 use Rattle.text.specs.Grammar.{lineOf}
 use Rattle.lines.specs.Lines.{noLine, completionLine}
@@ -22,6 +22,6 @@ module _ (s : List ℕ) (r : Request) (e : lineOf s ≡ L.Is r) where
   unfolding answerTo
   completion-lines = rw e
 
-  pub prediction-lines : answerTo S.Prediction s ≡ spectrumLines (spectrumOf r)
+  pub prediction-lines : answerTo S.Prediction s ≡ spectrumLines (shownSpectrumOf r)
   unfolding answerTo
   prediction-lines = rw e

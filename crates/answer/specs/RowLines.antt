@@ -5,25 +5,25 @@ use mathlib.Core.Bool.{cond}
 use mathlib.Core.List.{List, [], _∷_, _++_}
 use lib.Dec.{eqb}
 use lib.ListN.{getD}
-use Rattle.model.specs.declared.Row.{Row}
-use Rattle.model.specs.Fixed.{noRow}
-use Rattle.prediction.specs.declared.Spectrum.{Spectrum}
+use Rattle.model.specs.declared.Shown.{Shown}
+use Rattle.model.specs.Fixed.{noShown}
+use Rattle.prediction.specs.declared.shown.ShownSpectrum.{ShownSpectrum}
 use Rattle.text.specs.Grammar.{space}
 use Rattle.text.specs.Render.{renderSigned}
 use Rattle.lines.specs.Lines.{lf, ended, noLine}
 
 -- the line of measure k
-unfoldable pub rowLine : ℕ → Row → List ℕ
+unfoldable pub rowLine : ℕ → Shown → List ℕ
 unfolding ended
-rowLine k r = ended k space ++ renderSigned (r .ln) ++ (space ∷ []) ++ ended (r .median) space ++ ended (r .total) lf
+rowLine k r = ended k space ++ renderSigned (r .ln) ++ (space ∷ []) ++ ended (r .median) space ++ ended (r .sigma) lf
 
 -- the lines of the first n measures
-unfoldable pub rowLines : ℕ → List Row → List ℕ
+unfoldable pub rowLines : ℕ → List Shown → List ℕ
 unfolding rowLine
 rowLines zero rows = []
-rowLines (suc k) rows = rowLines k rows ++ rowLine k (getD rows k noRow)
+rowLines (suc k) rows = rowLines k rows ++ rowLine k (getD rows k noShown)
 
 -- the lines of a spectrum, or that of its refusal
-unfoldable pub spectrumLines : Spectrum → List ℕ
+unfoldable pub spectrumLines : ShownSpectrum → List ℕ
 unfolding rowLines noLine
 spectrumLines s = cond (eqb (s .refusal) 0) (rowLines 24 (s .rows)) (noLine (s .refusal))

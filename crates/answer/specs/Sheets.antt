@@ -3,7 +3,7 @@ use Prim.Native.Nat.{ℕ}
 use mathlib.Core.List.{List}
 use Rattle.request.specs.declared.Request.{Request}
 use Rattle.outcome.specs.Answers.{completionOf}
-use Rattle.prediction.specs.Spectra.{spectrumOf}
+use Rattle.prediction.specs.Spectra.{shownSpectrumOf}
 use Rattle.text.specs.declared.read.Line.{Line}
 use Rattle.text.specs.declared.read.Line.the-variants as L
 use Rattle.text.specs.Grammar.{lineOf}
@@ -16,7 +16,7 @@ use Rattle.answer.specs.RowLines.{spectrumLines}
 unfoldable pub sheetOf : Sheet → Request → List ℕ
 unfolding completionLine completionOf spectrumLines
 sheetOf S.Completion r = completionLine (completionOf r)
-sheetOf S.Prediction r = spectrumLines (spectrumOf r)
+sheetOf S.Prediction r = spectrumLines (shownSpectrumOf r)
 
 -- refusal 14 for a malformed line
 unfoldable pub replyOf : Sheet → Line → List ℕ

@@ -6,7 +6,7 @@ use completion::complete;
 use lines::Wrote;
 use lines::write_completion;
 use lines::write_no;
-use prediction::predict;
+use prediction::predict_shown;
 pub use rows::write_spectrum;
 use text::Line;
 use text::read_line;
@@ -32,6 +32,6 @@ pub fn answer_line(sheet: Sheet, s: &[u8], out: &mut [u8]) -> Wrote
     };
     match sheet {
         Sheet::Completion => write_completion(out, complete(r)),
-        Sheet::Prediction => write_spectrum(out, predict(r)),
+        Sheet::Prediction => write_spectrum(out, predict_shown(r)),
     }
 }

@@ -4,8 +4,8 @@ use lines::TOO_LONG;
 use lines::Wrote;
 use lines::put_ended;
 use lines::write_no;
-use model::Row;
-use prediction::Spectrum;
+use model::Shown;
+use prediction::ShownSpectrum;
 use text::digits;
 use text::put_byte;
 use text::put_signed;
@@ -21,7 +21,7 @@ ghost use Rattle.answer.specs.RowLines.{rowLine, rowLines, spectrumLines
 const MEASURES: usize = 24;
 
 // The line of a measure, for which there is room.
-fn put_row(out: &mut [u8], at: usize, k: u64, row: Row) -> usize
+fn put_row(out: &mut [u8], at: usize, k: u64, row: Shown) -> usize
     requires { ⌜ at + length (rowLine k row) ≤ length (now out) ⌝ }
     ensures { λ r. ⌜ Written (now (out .entry)) at (rowLine k row) r (now (out .exit)) ⌝ }
 {
@@ -29,18 +29,18 @@ fn put_row(out: &mut [u8], at: usize, k: u64, row: Row) -> usize
     let p1 = put_signed(out, p0, row.ln);
     let p2 = put_byte(out, p1, b' ');
     let p3 = put_ended(out, p2, row.median, b' ');
-    put_ended(out, p3, row.total, b'\n')
+    put_ended(out, p3, row.sigma, b'\n')
 }
 
 // How many bytes a measure's line has: 4 beside its digits and the sign.
-fn row_length(k: u64, row: Row) -> usize
+fn row_length(k: u64, row: Shown) -> usize
     ensures { λ r. ⌜ (r ≡ length (rowLine k row)) × (r ≤ 85) ⌝ }
 {
-    digits(k) + width(row.ln) + digits(row.median) + digits(row.total) + 4
+    digits(k) + width(row.ln) + digits(row.median) + digits(row.sigma) + 4
 }
 
 // The lines of all measures, for which there is room.
-fn put_rows(out: &mut [u8], rows: [Row; 24]) -> usize
+fn put_rows(out: &mut [u8], rows: [Shown; 24]) -> usize
     requires { ⌜ length (rowLines 24 rows) ≤ length (now out) ⌝ }
     ensures { λ r. ⌜ Written (now (out .entry)) 0 (rowLines 24 rows) r (now (out .exit)) ⌝ }
 {
@@ -54,7 +54,7 @@ fn put_rows(out: &mut [u8], rows: [Row; 24]) -> usize
 }
 
 // How many bytes the lines of all measures have.
-fn rows_length(rows: [Row; 24]) -> usize
+fn rows_length(rows: [Shown; 24]) -> usize
     ensures { λ r. ⌜ r ≡ length (rowLines 24 rows) ⌝ }
 {
     let mut n = 0usize;
@@ -68,7 +68,7 @@ fn rows_length(rows: [Row; 24]) -> usize
 
 // The lines of a spectrum, or the line of its refusal. Its only refusal is 16, and then no byte of
 // `out` has changed.
-pub fn write_spectrum(out: &mut [u8], s: Spectrum) -> Wrote
+pub fn write_spectrum(out: &mut [u8], s: ShownSpectrum) -> Wrote
     ensures { λ r. ⌜ LineWritten (now (out .entry)) (spectrumLines s) r (now (out .exit)) ⌝ }
 {
     let refusal = s.refusal;

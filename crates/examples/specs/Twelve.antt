@@ -10,8 +10,8 @@ use Rattle.request.specs.declared.Request.{Request}
 use Rattle.request.specs.Styles.{styleOf}
 use Rattle.refusals.specs.Order as No
 use Rattle.outcome.specs.Answers.{completionOf, numberOf, figuresOf}
-use Rattle.tables.specs.Tables.{coefficientsAt}
-use Rattle.model.specs.Equations.{PGA, E27, fMag, fHngM}
+use Rattle.tables.specs.Tables.{PGA, coefficientsAt}
+use Rattle.model.specs.Equations.{E27, fMag, fHngM}
 
 -- a request with what the examples vary: M, rake, ZTOR, RRUP, Z1.0, Z1.5 and Z2.5; its RJB is 4000
 abbrev pub request : ℕ → ℕ → Field → Field → Field → Field → Field → Request

@@ -12,10 +12,10 @@ use borrow.Author.Tests.{lt-ltb, le-ltb, ltb-true, ltb-false, eqb-true, eqb-fals
 use Rattle.outcome.specs.declared.Completion.{Completion}
 use Rattle.outcome.specs.declared.Completion.the-variants as C
 use Rattle.outcome.specs.Answers.{completionOf}
-use Rattle.model.specs.declared.Row.{Row}
-use Rattle.model.specs.Fixed.{noRow}
-use Rattle.prediction.specs.declared.Spectrum.{Spectrum}
-use Rattle.prediction.specs.Spectra.{spectrumOf}
+use Rattle.model.specs.declared.Shown.{Shown}
+use Rattle.model.specs.Fixed.{noShown}
+use Rattle.prediction.specs.declared.shown.ShownSpectrum.{ShownSpectrum}
+use Rattle.prediction.specs.Spectra.{shownSpectrumOf}
 use Rattle.text.specs.declared.read.Line.{Line}
 use Rattle.text.specs.declared.read.Line.the-variants as L
 use Rattle.text.specs.Grammar.{lineOf}
@@ -49,12 +49,12 @@ unfolding completionLine
 some-completion (C.Done c) = omega (arith, length-ok c)
 some-completion (C.Refused n) = omega (arith, length-no n)
 
-some-rows : (rows : List Row) → 0 < length (rowLines 24 rows)
+some-rows : (rows : List Shown) → 0 < length (rowLines 24 rows)
 unfolding rowLines
 some-rows rows =
-    omega (arith, length-append (rowLines 23 rows) (rowLine 23 (getD rows 23 noRow)), length-row 23 (getD rows 23 noRow))
+    omega (arith, length-append (rowLines 23 rows) (rowLine 23 (getD rows 23 noShown)), length-row 23 (getD rows 23 noShown))
 
-some-spectrum : (s : Spectrum) → 0 < length (spectrumLines s)
+some-spectrum : (s : ShownSpectrum) → 0 < length (spectrumLines s)
 some-spectrum s = go (eqb (s .refusal) 0) refl
   where
     go : (t : Bool) → eqb (s .refusal) 0 ≡ t → 0 < length (spectrumLines s)
@@ -64,7 +64,7 @@ some-spectrum s = go (eqb (s .refusal) 0) refl
 some-reply : (sheet : Sheet) (l : Line) → 0 < length (replyOf sheet l)
 unfolding replyOf sheetOf
 some-reply S.Completion (L.Is r) = some-completion (completionOf r)
-some-reply S.Prediction (L.Is r) = some-spectrum (spectrumOf r)
+some-reply S.Prediction (L.Is r) = some-spectrum (shownSpectrumOf r)
 some-reply S.Completion L.Malformed = omega (arith, length-no 14)
 some-reply S.Prediction L.Malformed = omega (arith, length-no 14)
 

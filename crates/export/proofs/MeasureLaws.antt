@@ -6,21 +6,22 @@ use native.Mathlib.Omega.{arith}
 use lib.Dec.{ltb}
 use lib.Ieee.{Float}
 use borrow.Author.Tests.{ltb-true, ltb-false}
+use Rattle.refusals.specs.Order as No
 use Rattle.request.specs.declared.Request.{Request}
+use Rattle.tables.specs.Tables.{measures}
 use Rattle.outcome.specs.declared.Completed.{Completed}
 use Rattle.outcome.specs.declared.Completion.the-variants as C
 use Rattle.outcome.specs.Answers.{completionOf, numberOf}
 use Rattle.outcome.proofs.ExactlyWhen.{number-is, accepted-by}
-use Rattle.model.specs.declared.Row.{Row}
-use Rattle.model.specs.Fixed.{rowFixed}
+use Rattle.model.specs.Fixed.{rowFixed, shownOf}
 use Rattle.text.specs.declared.read.Line.{Line}
 use Rattle.text.specs.declared.read.Line.the-variants as L
 use Rattle.prediction.specs.declared.measure.OneMeasure.{OneMeasure}
 use Rattle.prediction.specs.declared.measure.OneMeasure.the-variants as M
 use Rattle.prediction.specs.Spectra.{scenarioOf}
-use Rattle.prediction.specs.Measures.{valueOf, measureOf}
+use Rattle.prediction.specs.Measures.{measureOf}
 use Rattle.prediction.proofs.RowLaws.{by-completion}
-use Rattle.prediction.proofs.MeasureLaws.{measure-none, measure-fixed}
+use Rattle.prediction.proofs.MeasureLaws.{measure-none, measure-fixed, no-value}
 use Rattle.prediction.proofs.MeasureLaws as P
 use Rattle.export.specs.Given.{measureAnswer, refusalIn, medianAfter, totalAfter, MeasureGiven}
 
@@ -41,10 +42,6 @@ module _ (y s : Float) where
     measure-refused n e = subst (λ (b : OneMeasure). MeasureGiven b n y y s s) (sym e) (refusal-given n)
 
 -- ---- 0 stands for no refusal
-no-value : (w : Row) (n : ℕ) → valueOf w ≡ M.Refused n → ⊥
-unfolding valueOf
-no-value w n e = let z : _≡_ {A = ℕ} 0 1 = cc in omega arith
-
 same-number : (m n : ℕ) → M.Refused m ≡ M.Refused n → m ≡ n
 same-number m n e = cc
 
@@ -58,12 +55,13 @@ never-0 r e =
 request-not-0 : (r : Request) (k : ℕ) → measureOf r k ≡ M.Refused 0 → ⊥
 request-not-0 r k h = by-completion r done refused
   where
-    by-number : (c : Completed) → completionOf r ≡ C.Done c → (t : Bool) → ltb 23 k ≡ t → ⊥
-    by-number c e true u = omega (arith, same-number 15 0 (sym (measure-none r c k e (ltb-true 23 k u)) ∙ h))
-    by-number c e false u = no-value (rowFixed k (scenarioOf c)) 0 (sym (measure-fixed r c k e (ltb-false 23 k u)) ∙ h)
+    by-number : (c : Completed) → completionOf r ≡ C.Done c → (t : Bool) → ltb k measures ≡ t → ⊥
+    by-number c e false u = omega (arith, same-number No.noMeasure 0 (sym (measure-none r c k e (ltb-false k measures u)) ∙ h))
+    by-number c e true u =
+        no-value (shownOf (rowFixed k (scenarioOf c))) 0 (sym (measure-fixed r c k e (ltb-true k measures u)) ∙ h)
 
     done : (c : Completed) → completionOf r ≡ C.Done c → ⊥
-    done c e = by-number c e (ltb 23 k) refl
+    done c e = by-number c e (ltb k measures) refl
 
     refused : (n : ℕ) → completionOf r ≡ C.Refused n → ⊥
     refused n e = never-0 r (e ∙ ap C.Refused (same-number n 0 (sym (P.measure-refused r n k e) ∙ h)))

@@ -1,6 +1,7 @@
 // The hanging wall's four factors (6) and the basin's factor below 3 km (12), the same for every
-// measure, in units of 10^-9. Each function equals a definition of model's specs.
+// measure, in units of 10^-9. Each function equals a definition of model's specs or of specs/Factoring.
 use model::Scenario;
+use reckon::E9;
 use reckon::exp_fixed;
 use reckon::whole_root;
 ghost use mathlib.Core.Path.{_≡_};
@@ -8,9 +9,13 @@ ghost use Prim.Native.Nat.{_≤_};
 ghost use Rattle.model.specs.Equations.{fHngM, fHngZ, fHngDip};
 ghost use Rattle.model.specs.Accuracy.{InRange};
 ghost use Rattle.model.specs.Fixed.{wallDistanceFixed, fHngRFixed, wallFixed, deepFixed};
+ghost use Rattle.factors.specs.Factoring.{factorsOf};
 
-// One, in units of 10^-9.
-const E9: u64 = 1_000_000_000;
+// What is worked out once for a request: the product of the hanging wall's factors, and the basin's.
+pub struct Factors {
+    pub wall: u64,
+    pub deep: u64,
+}
 
 // e^-0.75.
 const DEEPEST: u64 = 472_366_552;
@@ -80,7 +85,7 @@ fn f_hng_dip(dip: u64) -> u64
 }
 
 // The product of the four.
-pub fn wall_of(x: Scenario) -> u64
+fn wall_of(x: Scenario) -> u64
     requires { ⌜ InRange x ⌝ }
     ensures { λ r. ⌜ r ≡ wallFixed x ⌝ }
 {
@@ -88,7 +93,7 @@ pub fn wall_of(x: Scenario) -> u64
 }
 
 // e^-0.75 (1 - e^(-0.25 (Z - 3))), nothing down to 3 km.
-pub fn deep_of(z: u64) -> u64
+fn deep_of(z: u64) -> u64
     requires { ⌜ z ≤ 10000 ⌝ }
     ensures { λ r. ⌜ r ≡ deepFixed z ⌝ }
 {
@@ -97,4 +102,17 @@ pub fn deep_of(z: u64) -> u64
     }
     let fall = (z - 3_000) * 250_000;
     DEEPEST * (E9 - exp_fixed(0 - fall as i64) / 10) / E9
+}
+
+// Both, of a request.
+pub fn factors_of(x: Scenario) -> Factors
+    requires { ⌜ InRange x ⌝ }
+    ensures { λ r. ⌜ r ≡ factorsOf x ⌝ }
+{
+    let wall = wall_of(x);
+    let deep = deep_of(x.z25);
+    Factors {
+        wall: wall,
+        deep: deep,
+    }
 }

@@ -1,4 +1,4 @@
--- An array of rows that is filled from its start, PGA's row known from the first: a row set, and PGA's passed over. Assumes nothing.
+-- An array of fine rows that is filled from its start, PGA's row known from the first: a row set, and PGA's passed over. Assumes nothing.
 use Prim.Native.Nat.{ℕ, _+_, _≤_, _<_}
 use mathlib.Core.Path.{_≡_, sym, ap, subst, _∙_}
 use mathlib.Core.List.{List}
@@ -7,41 +7,41 @@ use lib.ListN.{length, getD, set, length-set}
 use lib.Seq.{getD-set-same, getD-set-other}
 use borrow.Author.Count.{below-more}
 use Rattle.model.specs.declared.Scenario.{Scenario}
-use Rattle.model.specs.declared.Row.{Row}
+use Rattle.model.specs.declared.Fine.{Fine}
 use Rattle.site.specs.declared.Soil.{Soil}
 use Rattle.terms.specs.declared.Path.{Path}
-use Rattle.model.specs.Equations.{PGA}
-use Rattle.model.specs.Fixed.{noRow, rowFixed}
+use Rattle.tables.specs.Tables.{PGA}
+use Rattle.model.specs.Fixed.{fineFixed, noFine}
 use Rattle.terms.specs.Paths.{pathOf}
 use Rattle.site.specs.Sharing.{soilOf}
 use Rattle.site.proofs.SoilLaws.{soil-k1}
 
-pub record Filled (x : Scenario) (rows : List Row) (k : ℕ) : Type 0 where
+pub record Filled (x : Scenario) (rows : List Fine) (k : ℕ) : Type 0 where
   pub whole : length rows ≡ 24
-  pub pga : getD rows PGA noRow ≡ rowFixed PGA x
-  pub below : (j : ℕ) → j < k → getD rows j noRow ≡ rowFixed j x
+  pub pga : getD rows PGA noFine ≡ fineFixed PGA x
+  pub below : (j : ℕ) → j < k → getD rows j noFine ≡ fineFixed j x
 
 pub set-filled :
-    (x : Scenario) (rows : List Row) (k : ℕ) (v : Row) → k < 24 → (k ≡ PGA → ⊥) → v ≡ rowFixed k x → Filled x rows k
+    (x : Scenario) (rows : List Fine) (k : ℕ) (v : Fine) → k < 24 → (k ≡ PGA → ⊥) → v ≡ fineFixed k x → Filled x rows k
     → Filled x (set rows k v) (k + 1)
 set-filled x rows k v h other e f =
     record {
       whole = length-set rows k v ∙ f .whole;
-      pga = getD-set-other rows k PGA v noRow (λ p. other (sym p)) ∙ f .pga;
+      pga = getD-set-other rows k PGA v noFine (λ p. other (sym p)) ∙ f .pga;
       below =
-          below-more (λ (j : ℕ). getD (set rows k v) j noRow ≡ rowFixed j x) k
-          (λ j l. getD-set-other rows k j v noRow (λ p. absurd (omega (arith, p, l))) ∙ f .below j l)
-          (getD-set-same rows k v noRow (omega (arith, h, f .whole)) ∙ e);
+          below-more (λ (j : ℕ). getD (set rows k v) j noFine ≡ fineFixed j x) k
+          (λ j l. getD-set-other rows k j v noFine (λ p. absurd (omega (arith, p, l))) ∙ f .below j l)
+          (getD-set-same rows k v noFine (omega (arith, h, f .whole)) ∙ e);
     }
 
-pub pass-filled : (x : Scenario) (rows : List Row) (k : ℕ) → k ≡ PGA → Filled x rows k → Filled x rows (k + 1)
+pub pass-filled : (x : Scenario) (rows : List Fine) (k : ℕ) → k ≡ PGA → Filled x rows k → Filled x rows (k + 1)
 pass-filled x rows k e f =
     record {
       whole = f .whole;
       pga = f .pga;
       below =
-          below-more (λ (j : ℕ). getD rows j noRow ≡ rowFixed j x) k (f .below)
-          (subst (λ (j : ℕ). getD rows j noRow ≡ rowFixed j x) (sym e) (f .pga));
+          below-more (λ (j : ℕ). getD rows j noFine ≡ fineFixed j x) k (f .below)
+          (subst (λ (j : ℕ). getD rows j noFine ≡ fineFixed j x) (sym e) (f .pga));
     }
 
 -- what was worked out for a c6 or a k1 says for which

@@ -1,1 +1,2 @@
+pub mod MeasureRead
 pub mod FilledRows

@@ -1,8 +1,8 @@
--- Demand 3: for every measure and every request in range, the reported row is as near the exact values as `Accurate` says. One proof
--- for all 24 measures: each law above asks of a row no more than `Fair` and `Spread`, which the rows of Tables 2 and 3 have. Assumes
--- nothing.
+-- Demand 3: for every measure and every request in range, the fine row is as near the exact values as `FineNear` says, and so the
+-- reported one as `Accurate` says. One proof for all 24 measures: each law above asks of a row no more than `Fair` and `Spread`, which
+-- the rows of Tables 2 and 3 have. Assumes nothing.
 use Prim.Native.Nat.{ℕ, _+_, _*_, _/_, _≤_, _<_}
-use mathlib.Core.Path.{_≡_}
+use mathlib.Core.Path.{_≡_, refl}
 use native.Mathlib.Omega.{arith}
 use native.Mathlib.Nat.{le-refl, le-trans, mul-le-mul, mul-le-mul-right, add-le-add, le-add-right}
 use lib.Dec.{lit≤}
@@ -12,18 +12,19 @@ use Rattle.exact.specs.Exact.{E30, rootE}
 use Rattle.fixed.specs.Fixed.{K21}
 use Rattle.tables.specs.Tables.{coefficientsAt, deviationsAt}
 use Rattle.model.specs.declared.Scenario.{Scenario}
-use Rattle.model.specs.Equations.{E24, alpha, intraVariance, intra, total, arbitrary, rockPGA, joined, inter}
-use Rattle.model.specs.Accuracy.{InRange, Accurate}
+use Rattle.model.specs.Equations.{E24, alpha, intraVariance, median, intra, total, arbitrary, rockPGA, joined, inter}
+use Rattle.model.specs.Accuracy.{InRange, FineInRange, exactOf, Accurate}
 use Rattle.exact.proofs.Signed.{by-sign}
-use Rattle.model.specs.Fixed.{alphaFixed, varianceFixed, rowFixed, rockPGAFixed, intraVarianceFixed, sigmaOf}
+use Rattle.model.specs.Fixed.{squaredFixed, alphaFixed, varianceFixed, fineFixed, rowFixed, rockPGAFixed, intraVarianceFixed}
 use Rattle.model.proofs.Alpha.{alpha-near, alphaLow, alpha-between}
 use Rattle.model.proofs.Between.{Between}
-use Rattle.model.proofs.SigmaNear.{joined-near, sigma-near}
+use Rattle.model.proofs.SigmaNear.{joined-near}
 use Rattle.model.proofs.Variance.{square-root, variance-near, variance-high, variance-low}
 use Rattle.model.proofs.Fair.{fair-at, spread-at}
-use Rattle.model.proofs.Median.{rock-is-near}
-use Rattle.model.proofs.Reported.{ln-reported, median-one, median-low, median-high}
-use Rattle.model.proofs.NearSums.{near-exact}
+use Rattle.model.proofs.Median.{rock-is-near, lnMedian-near, lnMedian-between, lnMedian-size}
+use Rattle.model.proofs.Quotients.{pos-low}
+use Rattle.model.proofs.Reported.{RootNear, FineNear, report-accurate}
+use Rattle.exact.proofs.NearLaws.{near-wide}
 
 -- a number near one that is 0.09 or more is not negative, and at least 0.089999
 positive :
@@ -57,27 +58,26 @@ module _ (i : ℕ) (x : Scenario) (h : i < 24) (r : InRange x) where
   unfolding exactAlpha
   alphas-between = alpha-between (coefficientsAt i) (x .vs30) (rockPGA x) (fair-at i h) (r .vs30-low) (r .vs30-high)
 
-  pub exactVariance : ℕ
+  exactVariance : ℕ
   exactVariance = up (intraVariance (deviationsAt i) exactAlpha)
 
-  pub intra-variance : NearZ K21 287 (pos (varianceFixed i x)) (pos exactVariance) × (89999000 ≤ varianceFixed i x)
+  intra-variance : NearZ K21 287 (pos (varianceFixed i x)) (pos exactVariance) × (89999000 ≤ varianceFixed i x)
   unfolding varianceFixed exactVariance exactAlpha fixedAlpha
   intra-variance =
       positive (intraVarianceFixed (deviationsAt i) fixedAlpha) (intraVariance (deviationsAt i) exactAlpha)
       (variance-near fixedAlpha exactAlpha alphas-near alphas-between (deviationsAt i) (spread-at i h))
       (variance-low fixedAlpha exactAlpha alphas-near alphas-between (deviationsAt i) (spread-at i h))
 
-  pub variance-top : exactVariance ≤ 2 * E30
+  variance-top : exactVariance ≤ 2 * E30
   unfolding exactVariance
   variance-top = variance-high fixedAlpha exactAlpha alphas-near alphas-between (deviationsAt i) (spread-at i h)
 
-  -- ---- the sigmas
+  -- with sums of which each is 1 unit less sure than what it adds to
   abbrev t2 : ℕ
-  t2 = deviationsAt i .t * deviationsAt i .t * 1000
+  t2 = squaredFixed (deviationsAt i .t)
 
-  pub intra-reported : NearZ E24 1 (pos (sigmaOf (varianceFixed i x))) (pos (intra i x))
-  unfolding intra exactVariance exactAlpha
-  intra-reported = sigma-near 287 (varianceFixed i x) exactVariance (lit≤ tt) (intra-variance .1) (intra-variance .0)
+  abbrev sC2 : ℕ
+  sC2 = squaredFixed (deviationsAt i .sC)
 
   -- what stands under the root of the total sigma
   exactTotal : ℕ
@@ -96,33 +96,76 @@ module _ (i : ℕ) (x : Scenario) (h : i < 24) (r : InRange x) where
       (mul-le-mul-right E24 (mul-le-mul (spread-at i h .t-high) (spread-at i h .t-high))))
       (le-trans (add-le-add variance-top (le-refl (500 * 500 * E24))) (lit≤ tt))
 
-  pub total-reported : NearZ E24 1 (pos (sigmaOf (varianceFixed i x + t2))) (pos (total i x))
-  unfolding total joined intra exactTotal exactVariance exactAlpha
-  total-reported =
-      sigma-near 288 (varianceFixed i x + t2) exactTotal (lit≤ tt)
-      (le-trans (intra-variance .1) (le-add-right (varianceFixed i x) t2)) total-variance
-
-  pub arbitrary-reported :
-      NearZ E24 1 (pos (sigmaOf (varianceFixed i x + t2 + deviationsAt i .sC * deviationsAt i .sC * 1000))) (pos (arbitrary i x))
-  unfolding arbitrary total joined intra exactTotal exactVariance exactAlpha
-  arbitrary-reported =
-      sigma-near 289 (varianceFixed i x + t2 + deviationsAt i .sC * deviationsAt i .sC * 1000) _ (lit≤ tt)
-      (le-trans (intra-variance .1)
-      (le-trans (le-add-right (varianceFixed i x) t2)
-      (le-add-right (varianceFixed i x + t2) (deviationsAt i .sC * deviationsAt i .sC * 1000))))
-      (joined-near 288 (varianceFixed i x + t2) exactTotal (deviationsAt i .sC) total-top total-variance)
-
-  -- ---- the row
-  pub demand-3 : Accurate i x (rowFixed i x)
-  unfolding rowFixed inter
-  demand-3 =
+  -- ---- the fine row
+  intra-near : RootNear (varianceFixed i x) (intra i x)
+  unfolding intra exactVariance exactAlpha
+  intra-near =
       record {
-        ln-near = ln-reported i x h r;
-        median-one = median-one i x h r;
-        median-low = median-low i x h r;
-        median-high = median-high i x h r;
-        intra-near = intra-reported;
-        inter-near = near-exact E24 1000 (pos (deviationsAt i .t));
-        total-near = total-reported;
-        arbitrary-near = arbitrary-reported;
+        under = exactVariance;
+        is = refl;
+        near = near-wide K21 287 298 _ _ (lit≤ tt) (intra-variance .0);
+        least = intra-variance .1;
       }
+
+  total-near : RootNear (varianceFixed i x + t2) (total i x)
+  unfolding total joined intra exactTotal exactVariance exactAlpha
+  total-near =
+      record {
+        under = exactTotal;
+        is = refl;
+        near = near-wide K21 288 298 _ _ (lit≤ tt) total-variance;
+        least = le-trans (intra-variance .1) (le-add-right (varianceFixed i x) t2);
+      }
+
+  arbitrary-near : RootNear (varianceFixed i x + t2 + sC2) (arbitrary i x)
+  unfolding arbitrary total joined intra exactTotal exactVariance exactAlpha
+  arbitrary-near =
+      record {
+        under = rootE exactTotal * rootE exactTotal / E30 + deviationsAt i .sC * deviationsAt i .sC * E24;
+        is = refl;
+        near =
+            near-wide K21 289 298 _ _ (lit≤ tt)
+            (joined-near 288 (varianceFixed i x + t2) exactTotal (deviationsAt i .sC) total-top total-variance);
+        least = le-trans (total-near .least) (le-add-right (varianceFixed i x + t2) sC2);
+      }
+
+  pub fine-near : FineNear (exactOf i x) (fineFixed i x)
+  unfolding exactOf fineFixed median inter
+  fine-near =
+      record {
+        ln-near = lnMedian-near i x h r;
+        ln-between = lnMedian-between i x h r;
+        median-is = refl;
+        intra = intra-near;
+        inter-is = refl;
+        total = total-near;
+        arbitrary = arbitrary-near;
+      }
+
+  -- its size
+  pub variance-size : varianceFixed i x ≤ 2000000287
+  variance-size = top (varianceFixed i x) exactVariance variance-top (pos-low (intra-variance .0))
+    where
+      top : (v w : ℕ) → w ≤ 2 * E30 → v * K21 ≤ w + 287 * K21 → v ≤ 2000000287
+      top v w k l = omega arith
+
+  pub fine-in-range : FineInRange (fineFixed i x)
+  unfolding fineFixed
+  fine-in-range =
+      let d = spread-at i h in
+      let t-high : t2 ≤ 250000000 = mul-le-mul-right 1000 (mul-le-mul (d .t-high) (d .t-high)) in
+      let sC-high : sC2 ≤ 90000000 = mul-le-mul-right 1000 (mul-le-mul (d .sC-high) (d .sC-high)) in
+      let z = lnMedian-size i x h r in
+      record {
+        ln-low = z .0;
+        ln-high = z .1;
+        intra-high = omega (arith, variance-size);
+        t-high = d .t-high;
+        total-high = omega (arith, variance-size, t-high);
+        arbitrary-high = omega (arith, variance-size, t-high, sC-high);
+      }
+
+  -- ---- the reported row
+  pub demand-3 : Accurate (exactOf i x) (rowFixed i x)
+  unfolding rowFixed
+  demand-3 = report-accurate (exactOf i x) (fineFixed i x) fine-near

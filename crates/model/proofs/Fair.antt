@@ -3,6 +3,7 @@
 -- for the basin; for the site, 5 c10 + 123 k2 below k1 and 5 (c10 + k2 n) from k1 up; and two a product for its roundings. The
 -- largest sum is 396, at 0.5 s. Assumes nothing.
 use Prim.Native.Nat.{ℕ, _+_, _*_, _≤_, _<_}
+use mathlib.Core.Path.{sym, subst}
 use mathlib.Core.Bool.{Bool, true, _&&_}
 use mathlib.Core.List.{List, _∷_, []}
 use native.Mathlib.Omega.{arith}
@@ -14,6 +15,7 @@ use Rattle.exact.proofs.Computed.{run, run-from}
 use Rattle.tables.specs.declared.Coefficients.{Coefficients}
 use Rattle.tables.specs.declared.Deviations.{Deviations}
 use Rattle.tables.specs.Tables.{table2, table3, coefficientsAt, deviationsAt}
+use Rattle.tables.specs.OfTables.{OfTable2, OfTable3}
 use Rattle.model.specs.Equations.{linear}
 use Rattle.model.proofs.NearSums.{shareErr}
 use Rattle.model.specs.Fixed.{crossFixed}
@@ -143,6 +145,10 @@ pub fair-at : (i : ℕ) → i < 24 → Fair (coefficientsAt i)
 unfolding fairAt
 fair-at i h = fair (coefficientsAt i) (run-from fairAt 0 24 fair-rows i (omega arith) (omega arith))
 
+-- a row that a function is handed
+pub fair-of : (c : Coefficients) → OfTable2 c → Fair c
+fair-of c o = subst (λ (r : Coefficients). Fair r) (sym (o .is)) (fair-at (o .i) (o .below))
+
 -- ---- Table 3
 pub record Spread (d : Deviations) : Type 0 where
   pub s-low : 300 ≤ d .s
@@ -181,3 +187,6 @@ spread-rows = tt
 pub spread-at : (i : ℕ) → i < 24 → Spread (deviationsAt i)
 unfolding spreadAt
 spread-at i h = spread (deviationsAt i) (run-from spreadAt 0 24 spread-rows i (omega arith) (omega arith))
+
+pub spread-of : (d : Deviations) → OfTable3 d → Spread d
+spread-of d o = subst (λ (r : Deviations). Spread r) (sym (o .is)) (spread-at (o .i) (o .below))

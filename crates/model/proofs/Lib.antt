@@ -17,4 +17,3 @@ pub mod Variance
 pub mod SigmaNear
 pub mod Demand
 pub mod Sizes
-pub mod OfTables

@@ -1,5 +1,6 @@
--- What is reported of ln median and of the median. The nearest millionth of a number within 400 units of 10^-9 is within 900 of them,
--- so within one millionth. The exponential of such a number is within 10 + 402 + 1 parts in 10^9 and one unit of 10^-10 and a little,
+-- A row that is reported of a fine one is as near the exact values as `Accurate` says, whichever measure's they are, where the fine one
+-- is as near them as `FineNear` says. The nearest millionth of a number within 400 units of 10^-9 is within 900 of them, so within one
+-- millionth. The exponential of such a number is within 10 + 402 + 1 parts in 10^9 and one unit of 10^-10 and a little,
 -- of which the last is made up by what 1/500000, 2000 parts, leaves, as the median is above one unit: at ln median -15 it is above
 -- 3000. Assumes nothing.
 use Prim.Native.Nat.{ℕ, _+_, _*_, _^_, _≤_, _<_}
@@ -9,19 +10,21 @@ use native.Mathlib.Nat.{le-refl, le-trans, mul-le-mul-right, mul-assoc, mul-comm
 use lib.Dec.{lit≤}
 use lib.IntN.{ℤ, pos, _*ℤ_}
 use Rattle.exact.specs.Near.{up, dn, NearZ}
-use Rattle.exact.specs.Exact.{E30, expE}
+use Rattle.exact.specs.Exact.{E30, expE, rootE}
 use Rattle.fixed.specs.Fixed.{E9, K20, K21, nearest, expFixed}
-use Rattle.model.specs.declared.Scenario.{Scenario}
+use Rattle.model.specs.declared.Fine.{Fine}
 use Rattle.fixed.proofs.SignedLaws.{nearest-half}
 use Rattle.exact.proofs.ExpExact.{expE-near, expE-mono}
 use Rattle.model.proofs.Rock.{minusFifteen}
-use Rattle.model.specs.Accuracy.{InRange}
+use Rattle.model.specs.Accuracy.{Exact, Accurate}
 use Rattle.exact.proofs.RelLaws.{chain}
 use Rattle.exact.proofs.NearLaws.{near→within}
-use Rattle.model.specs.Equations.{median, lnMedian, most, E24}
-use Rattle.model.specs.Fixed.{lnMedianFixed}
+use Rattle.model.specs.Equations.{most, E24, E27}
+use Rattle.model.specs.Fixed.{sigmaOf, report}
 use Rattle.fixed.proofs.ExpNear.{expFixed-near}
-use Rattle.model.proofs.Median.{lnMedian-size, lnMedian-near, lnMedian-between}
+use Rattle.model.proofs.Between.{Between, near-between}
+use Rattle.model.proofs.NearSums.{near-exact}
+use Rattle.model.proofs.SigmaNear.{sigma-near}
 use Rattle.model.proofs.WallNear.{most-by}
 
 -- ---- the nearest millionth
@@ -96,65 +99,98 @@ largest-value : expE (pos (13 * E30)) ≤ 4500000000000000 * K20
 unfolding expE
 largest-value = lit≤ tt
 
-module _ (i : ℕ) (x : Scenario) (h : i < 24) (r : InRange x) where
-  valued : Valued (expFixed (lnMedianFixed i x) * K20) (median i x)
-  unfolding median
-  valued =
-      let s = lnMedian-size i x h r in
-      value-near (lnMedianFixed i x) (lnMedian i x) (le-trans (s .1) (lit≤ tt)) (le-trans (s .0) (lit≤ tt)) (lnMedian-near i x h r)
+-- a fine ln median within 400 units of an exact one from -15 to 13
+module _ (s x : ℤ) (n : NearZ K21 400 s x) (b : Between minusFifteen (pos (13 * E30)) x) where
+  pub ln-parts : (dn s ≤ 15000000400) × (up s ≤ 13000000400)
+  ln-parts = near-between 15000000000 13000000000 (lit≤ tt) (lit≤ tt) (lit≤ tt) b n
 
-  pub median-least : 3000 * K20 ≤ median i x
-  unfolding median
-  median-least = le-trans least-value (expE-mono minusFifteen (lnMedian i x) (lnMedian-between i x h r .low))
+  valued : Valued (expFixed s * K20) (expE x)
+  valued = value-near s x (le-trans (ln-parts .1) (lit≤ tt)) (le-trans (ln-parts .0) (lit≤ tt)) n
 
-  pub median-largest : median i x ≤ 4500000000000000 * K20
-  unfolding median
-  median-largest = le-trans (expE-mono (lnMedian i x) (pos (13 * E30)) (lnMedian-between i x h r .high)) largest-value
+  least : 3000 * K20 ≤ expE x
+  least = le-trans least-value (expE-mono minusFifteen x (b .low))
+
+  largest : expE x ≤ 4500000000000000 * K20
+  largest = le-trans (expE-mono x (pos (13 * E30)) (b .high)) largest-value
 
   -- at least one unit
-  pub value-one : 1 ≤ expFixed (lnMedianFixed i x)
-  value-one = go (expFixed (lnMedianFixed i x)) (median i x) median-least (valued .high)
+  value-one : 1 ≤ expFixed s
+  value-one = go (expFixed s) (expE x) least (valued .high)
     where
       go : (p y : ℕ) → 3000 * K20 ≤ y → y * E9 ≤ p * K20 * (E9 + 413) + K20 * (E9 + 414) → 1 ≤ p
       go p y k l = omega arith
 
   -- so taking at least one changes nothing
-  value-is : most 1 (expFixed (lnMedianFixed i x)) ≡ expFixed (lnMedianFixed i x)
-  value-is =
-      most-by (λ (n : ℕ). n ≡ expFixed (lnMedianFixed i x)) 1 (expFixed (lnMedianFixed i x)) (λ k. omega (arith, value-one))
-      (λ k. refl)
+  value-is : most 1 (expFixed s) ≡ expFixed s
+  value-is = most-by (λ (n : ℕ). n ≡ expFixed s) 1 (expFixed s) (λ k. omega (arith, value-one)) (λ k. refl)
 
-  pub ln-reported : NearZ E24 1 (nearest (lnMedianFixed i x) 1000) (lnMedian i x)
-  ln-reported = report-near (lit≤ tt) (lnMedian-near i x h r)
-
-  pub median-one : 1 ≤ most 1 (expFixed (lnMedianFixed i x))
+  median-one : 1 ≤ most 1 (expFixed s)
   median-one = subst (λ (n : ℕ). 1 ≤ n) (sym value-is) value-one
 
-  pub median-low :
-      500000 * (most 1 (expFixed (lnMedianFixed i x)) * K20) ≤ 500000 * median i x + 500000 * K20 + median i x
+  median-low : 500000 * (most 1 (expFixed s) * K20) ≤ 500000 * expE x + 500000 * K20 + expE x
   median-low =
-      subst (λ (n : ℕ). 500000 * (n * K20) ≤ 500000 * median i x + 500000 * K20 + median i x) (sym value-is)
-      (go (expFixed (lnMedianFixed i x) * K20) (median i x) median-least (valued .low))
+      subst (λ (n : ℕ). 500000 * (n * K20) ≤ 500000 * expE x + 500000 * K20 + expE x) (sym value-is)
+      (go (expFixed s * K20) (expE x) least (valued .low))
     where
       go : (p y : ℕ) → 3000 * K20 ≤ y → p * E9 ≤ y * (E9 + 413) + K20 * (E9 + 11) → 500000 * p ≤ 500000 * y + 500000 * K20 + y
       go p y k l = omega arith
 
-  pub median-high :
-      500000 * median i x ≤ 500000 * (most 1 (expFixed (lnMedianFixed i x)) * K20) + 500000 * K20 + median i x
+  median-high : 500000 * expE x ≤ 500000 * (most 1 (expFixed s) * K20) + 500000 * K20 + expE x
   median-high =
-      subst (λ (n : ℕ). 500000 * median i x ≤ 500000 * (n * K20) + 500000 * K20 + median i x) (sym value-is)
-      (go (expFixed (lnMedianFixed i x) * K20) (median i x) (valued .high))
+      subst (λ (n : ℕ). 500000 * expE x ≤ 500000 * (n * K20) + 500000 * K20 + expE x) (sym value-is)
+      (go (expFixed s * K20) (expE x) (valued .high))
     where
       go : (p y : ℕ) → y * E9 ≤ p * (E9 + 413) + K20 * (E9 + 414) → 500000 * y ≤ 500000 * p + 500000 * K20 + y
       go p y l = omega arith
 
   -- and it is below 2^53
-  pub median-fits : most 1 (expFixed (lnMedianFixed i x)) < 2 ^ 53
+  pub median-fits : most 1 (expFixed s) < 2 ^ 53
   median-fits =
       subst (λ (n : ℕ). n < 2 ^ 53) (sym value-is)
-      (go (expFixed (lnMedianFixed i x))
-      (in-units K20 (E9 + 413) (E9 + 11) 4500000000000000 (expFixed (lnMedianFixed i x)) (median i x) (lit≤ tt) median-largest
-      (valued .low)))
+      (go (expFixed s)
+      (in-units K20 (E9 + 413) (E9 + 11) 4500000000000000 (expFixed s) (expE x) (lit≤ tt) largest (valued .low)))
     where
       go : (p : ℕ) → p * E9 ≤ 4500000000000000 * (E9 + 413) + (E9 + 11) → p < 2 ^ 53
       go p k = omega arith
+
+-- ---- a row
+-- v is at least 0.089999 and within 298 units of a number of which s is the exact root
+pub record RootNear (v s : ℕ) : Type 0 where
+  pub under : ℕ
+  pub is : s ≡ rootE under
+  pub near : NearZ K21 298 (pos v) (pos under)
+  pub least : 89999000 ≤ v
+
+pub sigma-reported : (v s : ℕ) → RootNear v s → NearZ E24 1 (pos (sigmaOf v)) (pos s)
+sigma-reported v s n =
+    subst (λ (t : ℕ). NearZ E24 1 (pos (sigmaOf v)) (pos t)) (sym (n .is)) (sigma-near 298 v (n .under) (lit≤ tt) (n .least) (n .near))
+
+pub record FineNear (e : Exact) (f : Fine) : Type 0 where
+  pub ln-near : NearZ K21 400 (f .ln) (e .ln)
+  pub ln-between : Between minusFifteen (pos (13 * E30)) (e .ln)
+  pub median-is : e .median ≡ expE (e .ln)
+  pub intra : RootNear (f .intra) (e .intra)
+  pub inter-is : e .inter ≡ f .t * E27
+  pub total : RootNear (f .total) (e .total)
+  pub arbitrary : RootNear (f .arbitrary) (e .arbitrary)
+
+pub report-accurate : (e : Exact) (f : Fine) → FineNear e f → Accurate e (report f)
+unfolding report
+report-accurate e f n =
+    let s : ℤ = f .ln in
+    let x : ℤ = e .ln in
+    let m = sym (n .median-is) in
+    let p : ℕ = most 1 (expFixed s) in
+    record {
+      ln-near = report-near (lit≤ tt) (n .ln-near);
+      median-one = median-one s x (n .ln-near) (n .ln-between);
+      median-low =
+          subst (λ (y : ℕ). 500000 * (p * K20) ≤ 500000 * y + 500000 * K20 + y) m (median-low s x (n .ln-near) (n .ln-between));
+      median-high =
+          subst (λ (y : ℕ). 500000 * y ≤ 500000 * (p * K20) + 500000 * K20 + y) m (median-high s x (n .ln-near) (n .ln-between));
+      intra-near = sigma-reported (f .intra) (e .intra) (n .intra);
+      inter-near =
+          subst (λ (y : ℕ). NearZ E24 0 (pos (f .t * 1000)) (pos y)) (sym (n .inter-is)) (near-exact E24 1000 (pos (f .t)));
+      total-near = sigma-reported (f .total) (e .total) (n .total);
+      arbitrary-near = sigma-reported (f .arbitrary) (e .arbitrary) (n .arbitrary);
+    }

@@ -13,11 +13,11 @@ use lib.Signed.{shrZ}
 use Rattle.exact.specs.Near.{up, dn, NearZ, Rel}
 use Rattle.exact.specs.Exact.{E30, lnE, expE}
 use Rattle.exact.proofs.Computed.{run, run-from}
-use Rattle.tables.specs.Tables.{table2, coefficientsAt}
+use Rattle.tables.specs.Tables.{PGA, table2, coefficientsAt}
 use Rattle.fixed.specs.Fixed.{E9, K20, K21, expFixed}
 use Rattle.model.specs.declared.Scenario.{Scenario}
 use Rattle.model.proofs.Fair.{Fair, leAll, restErr, fair-at, linearErr, le-all}
-use Rattle.model.specs.Equations.{E24, E27, linear, fSite, PGA, fMag, rockPGA, times, lnMedianAt}
+use Rattle.model.specs.Equations.{E24, E27, linear, fSite, fMag, rockPGA, times, lnMedianAt}
 use Rattle.model.specs.Accuracy.{InRange}
 use Rattle.model.specs.Fixed.{fSiteFixed, rockPGAFixed, lnMedianAtFixed}
 use Rattle.model.proofs.Between.{Between, between-turned, near-between, between-wide}

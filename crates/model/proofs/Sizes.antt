@@ -18,24 +18,21 @@ use Rattle.model.specs.declared.Scenario.{Scenario}
 use Rattle.fixed.proofs.SignedLaws.{mulDiv-abs, nearest-half}
 use Rattle.exact.proofs.Signed.{by-sign, abs-parts, mul-abs-le, sub-is, add-abs, mul-abs}
 use Rattle.model.proofs.Fair.{Fair}
-use Rattle.model.specs.Fixed.{fMagFixed, lnDistance, fDisFixed, fFltFixed, wallDistanceFixed, fHngRFixed, wallFixed, fHngFixed, deepFixed, fSedFixed, fSiteFixed, sigmaOf, curveFixed, alphaFixed, varianceFixed, siteCFixed, lnMedianFixed, atBaseFixed}
-use Rattle.model.specs.Equations.{byMagnitude, slope, fFltZ, most, linear, least, PGA}
+use Rattle.model.specs.Fixed.{fMagFixed, lnDistance, fDisFixed, fFltFixed, wallDistanceFixed, fHngRFixed, wallFixed, fHngFixed, deepFixed, fSedFixed, fSiteFixed, sigmaOf, curveFixed, alphaFixed, siteCFixed, atBaseFixed}
+use Rattle.model.specs.Equations.{byMagnitude, slope, fFltZ, most, linear, least}
 use Rattle.model.proofs.Between.{near-between, between-ln}
 use Rattle.exact.proofs.Root.{side-lt, root-is}
 use Rattle.model.proofs.WallNear.{others-le, most-by}
 use Rattle.model.proofs.Ends.{distance-between, fFltZ-le}
 use Rattle.model.proofs.TermsNear.{slope-size, lnDistance-near}
 use borrow.Author.Tests.{ltb-true, lt-ltb, le-ltb, ltb-false}
-use Rattle.model.proofs.Median.{ln-sixteen, difference-between, lnMedian-size}
+use Rattle.model.proofs.Median.{ln-sixteen, difference-between}
 use Rattle.model.proofs.Curve.{Paired, quotient-size}
 use Rattle.model.proofs.SiteNear.{RockNear, logarithms-near, paired, capped}
-use Rattle.model.specs.Accuracy.{InRange}
 use Rattle.model.proofs.Alpha.{alpha-between, alpha-near}
-use Rattle.exact.specs.Exact.{E30, lnE}
+use Rattle.exact.specs.Exact.{lnE}
 use Rattle.fixed.proofs.LnNear.{lnFixed-near}
-use Rattle.model.proofs.Demand.{intra-variance, exactVariance, variance-top}
-use Rattle.model.proofs.Quotients.{pos-low}
-use Rattle.tables.specs.Tables.{deviationsAt}
+use Rattle.tables.specs.Tables.{PGA, deviationsAt}
 use Rattle.model.proofs.Variance.{rock-sigma-le}
 
 -- a share of a number, by their sizes
@@ -245,34 +242,21 @@ alpha-size c v a b f l h r =
     by-parts (alphaFixed c v a) 2671000367 (s .0) (le-trans (s .1) (lit≤ tt))
 
 -- ---- what is reported
-pub ln-size : (i : ℕ) (x : Scenario) → i < 24 → InRange x → natAbs (nearest (lnMedianFixed i x) 1000) ≤ 15000001
-ln-size i x h r =
-    let z : ℤ = lnMedianFixed i x in
+pub ln-size : (z : ℤ) → dn z ≤ 15000000400 → up z ≤ 13000000400 → natAbs (nearest z 1000) ≤ 15000001
+ln-size z l h =
     let q : ℤ = nearest z 1000 in
-    let s = lnMedian-size i x h r in
     let n = nearest-half z 1000 (lit≤ tt) in
     by-sign q
-    (λ k. by-sign z (λ e. omega (arith, abs-parts q, n .low, s .1)) (λ e. omega (arith, abs-parts q, n .low, s .1)))
-    (λ k. by-sign z (λ e. omega (arith, abs-parts q, n .high, s .0)) (λ e. omega (arith, abs-parts q, n .high, s .0)))
+    (λ k. by-sign z (λ e. omega (arith, abs-parts q, n .low, h)) (λ e. omega (arith, abs-parts q, n .low, h)))
+    (λ k. by-sign z (λ e. omega (arith, abs-parts q, n .high, l)) (λ e. omega (arith, abs-parts q, n .high, l)))
 
--- a variance from 0.089999 to 2.4 has a sigma from 0.299998 to 1.55
-pub sigma-size : (v : ℕ) → 89999000 ≤ v → v ≤ 2400000000 → (299998 ≤ sigmaOf v) × (sigmaOf v ≤ 1550000)
+-- a variance of at most 2.4 has a sigma of at most 1.55
+pub sigma-size : (v : ℕ) → v ≤ 2400000000 → sigmaOf v ≤ 1550000
 unfolding sigmaOf
-sigma-size v l h =
+sigma-size v h =
     let t : ℕ = root (4000 * v) in
-    let big : 599996 < t + 1 = side-lt 599996 (t + 1) (omega (arith, root-is (4000 * v) .high)) in
     let small : t < 3099000 = side-lt t 3099000 (omega (arith, root-is (4000 * v) .low)) in
-    (omega arith, omega arith)
-
-pub variance-size : (i : ℕ) (x : Scenario) → i < 24 → InRange x → (89999000 ≤ varianceFixed i x) × (varianceFixed i x ≤ 2000000287)
-variance-size i x h r = (
-  intra-variance i x h r .1,
-  top (varianceFixed i x) (exactVariance i x h r) (variance-top i x h r)
-      (pos-low (intra-variance i x h r .0)),
-)
-  where
-    top : (v w : ℕ) → w ≤ 2 * E30 → v * K21 ≤ w + 287 * K21 → v ≤ 2000000287
-    top v w k l = omega arith
+    omega arith
 
 -- alpha sigma_lnAB
 pub y-fits : (a : ℤ) → natAbs a ≤ 2671000367 → natAbs (mulDiv (pos (atBaseFixed (deviationsAt PGA .s))) a (pos E9)) ≤ 995000000

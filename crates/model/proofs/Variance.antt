@@ -16,9 +16,9 @@ use Rattle.exact.specs.Exact.{E30, mulE, rootE}
 use Rattle.exact.specs.Root.{root, IsRoot}
 use Rattle.fixed.specs.Fixed.{E9, K21, mulDiv}
 use Rattle.tables.specs.declared.Deviations.{Deviations}
-use Rattle.tables.specs.Tables.{table3, deviationsAt}
+use Rattle.tables.specs.Tables.{PGA, table3, deviationsAt}
 use Rattle.model.specs.Fixed.{atBaseFixed, crossFixed, intraVarianceFixed}
-use Rattle.model.specs.Equations.{atBase, times, PGA, E24, intraVariance}
+use Rattle.model.specs.Equations.{atBase, times, E24, intraVariance}
 use Rattle.model.proofs.Between.{Between, between-wide, near-between, share-nothing, between-dn, between-share, between-up}
 use Rattle.model.proofs.Fair.{Spread}
 use Rattle.model.proofs.Alpha.{alphaLow}

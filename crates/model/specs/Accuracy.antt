@@ -1,9 +1,10 @@
--- Demand 3: how near a reported row lies to the exact values, and the figures of which it is promised. Definitions only.
+-- Demand 3: how near a reported row lies to exact values, and the figures of which it is promised. Definitions only.
 use Prim.Native.Nat.{ℕ, _+_, _*_, _≤_}
-use lib.IntN.{pos}
-use Rattle.exact.specs.Near.{NearZ}
+use lib.IntN.{ℤ, pos}
+use Rattle.exact.specs.Near.{up, dn, NearZ}
 use Rattle.fixed.specs.Fixed.{K20}
 use Rattle.model.specs.declared.Scenario.{Scenario}
+use Rattle.model.specs.declared.Fine.{Fine}
 use Rattle.model.specs.declared.Row.{Row}
 use Rattle.model.specs.Equations.{E24, lnMedian, median, intra, inter, total, arbitrary}
 
@@ -21,14 +22,44 @@ pub record InRange (x : Scenario) : Type 0 where
   -- RRUP is at most a metre short of the root of RJB² + ZTOR²
   pub apart : x .rjb * x .rjb + x .ztor * x .ztor ≤ (x .rrup + 1) * (x .rrup + 1)
 
+-- how large a fine row of such a request is: ln median from -15 to 13 and 400 units, a variance at most 2.4
+pub record FineInRange (f : Fine) : Type 0 where
+  pub ln-low : dn (f .ln) ≤ 15000000400
+  pub ln-high : up (f .ln) ≤ 13000000400
+  pub intra-high : f .intra ≤ 2400000000
+  pub t-high : f .t ≤ 500
+  pub total-high : f .total ≤ 2400000000
+  pub arbitrary-high : f .arbitrary ≤ 2400000000
+
+-- the exact values of one measure, in units of 10^-30
+pub record Exact : Type 0 where
+  pub ln : ℤ
+  pub median : ℕ
+  pub intra : ℕ
+  pub inter : ℕ
+  pub total : ℕ
+  pub arbitrary : ℕ
+
+unfoldable pub exactOf : ℕ → Scenario → Exact
+unfolding lnMedian median intra inter total arbitrary
+exactOf i x =
+    record {
+      ln = lnMedian i x;
+      median = median i x;
+      intra = intra i x;
+      inter = inter i;
+      total = total i x;
+      arbitrary = arbitrary i x;
+    }
+
 -- ln median and the sigmas, in millionths, within one of the exact value; the median, in units of 10^-10, at least 1 and within
 -- 1 + Y/500000 of the exact Y
-pub record Accurate (i : ℕ) (x : Scenario) (r : Row) : Type 0 where
-  pub ln-near : NearZ E24 1 (r .ln) (lnMedian i x)
+pub record Accurate (e : Exact) (r : Row) : Type 0 where
+  pub ln-near : NearZ E24 1 (r .ln) (e .ln)
   pub median-one : 1 ≤ r .median
-  pub median-low : 500000 * (r .median * K20) ≤ 500000 * median i x + 500000 * K20 + median i x
-  pub median-high : 500000 * median i x ≤ 500000 * (r .median * K20) + 500000 * K20 + median i x
-  pub intra-near : NearZ E24 1 (pos (r .intra)) (pos (intra i x))
-  pub inter-near : NearZ E24 0 (pos (r .inter)) (pos (inter i))
-  pub total-near : NearZ E24 1 (pos (r .total)) (pos (total i x))
-  pub arbitrary-near : NearZ E24 1 (pos (r .arbitrary)) (pos (arbitrary i x))
+  pub median-low : 500000 * (r .median * K20) ≤ 500000 * e .median + 500000 * K20 + e .median
+  pub median-high : 500000 * e .median ≤ 500000 * (r .median * K20) + 500000 * K20 + e .median
+  pub intra-near : NearZ E24 1 (pos (r .intra)) (pos (e .intra))
+  pub inter-near : NearZ E24 0 (pos (r .inter)) (pos (e .inter))
+  pub total-near : NearZ E24 1 (pos (r .total)) (pos (e .total))
+  pub arbitrary-near : NearZ E24 1 (pos (r .arbitrary)) (pos (e .arbitrary))

@@ -13,11 +13,14 @@ use Rattle.request.specs.declared.Style.{Style}
 use Rattle.request.specs.declared.Style.the-variants.{StrikeSlip, Reverse, Normal}
 use Rattle.tables.specs.declared.Coefficients.{Coefficients}
 use Rattle.tables.specs.declared.Deviations.{Deviations}
-use Rattle.tables.specs.Tables.{coefficientsAt, deviationsAt}
+use Rattle.tables.specs.Tables.{PGA, coefficientsAt, deviationsAt}
 use Rattle.model.specs.declared.Scenario.{Scenario}
 
 -- ---- units
--- 10^-3, 10^-5 and 10^-6
+-- 10^-2, 10^-3, 10^-5 and 10^-6
+abbrev pub E28 : ℕ
+E28 = 10_000000_000000_000000_000000_000
+
 abbrev pub E27 : ℕ
 E27 = 1_000000_000000_000000_000000_000
 
@@ -100,21 +103,28 @@ fHng c x =
     (pos (fHngR (x .ztor) (x .rjb) (x .rrup) * (fHngM (x .m) * fHngZ (x .ztor) * fHngDip (x .dip)) / (100 * 20000 * 20)))
 
 -- ---- the shallow site response term (11), at Vs30 = v and A1100 = a
--- c and n
+-- c and n, in hundredths
+abbrev pub c100 : ℕ
+c100 = 188
+
+abbrev pub n100 : ℕ
+n100 = 118
+
+-- and in units of 10^-30
 abbrev pub siteC : ℕ
-siteC = 1_880000_000000_000000_000000_000000
+siteC = c100 * E28
 
 abbrev pub siteN : ℤ
-siteN = pos 1_180000_000000_000000_000000_000000
+siteN = pos (n100 * E28)
 
 -- c (V/k1)^n
 unfoldable pub curve : ℕ → ℕ → ℕ
 unfolding powE
-curve v k1 = 188 * powE (v * E30 / k1) siteN / 100
+curve v k1 = c100 * powE (v * E30 / k1) siteN / 100
 
 -- c10 + k2 n, in units of 10^-5
 abbrev pub linear : Coefficients → ℤ
-linear c = pos 100 *ℤ c .c10 +ℤ pos 118 *ℤ c .k2
+linear c = pos 100 *ℤ c .c10 +ℤ pos n100 *ℤ c .k2
 
 unfoldable pub fSite : Coefficients → ℕ → ℕ → ℤ
 unfolding times lnE curve
@@ -143,9 +153,6 @@ unfolding fMag fDis fFlt fHng fSite fSed
 lnMedianAt c x v a =
     fMag c (x .m) +ℤ fDis c (x .m) (x .rrup) +ℤ fFlt c (x .style) (x .ztor) +ℤ fHng c x +ℤ fSite c v a +ℤ fSed c (x .z25)
 
-abbrev pub PGA : ℕ
-PGA = 21
-
 -- A1100, the median PGA at Vs30 = 1100: PGA's own k1 is below that, so that its site term reads no A1100
 unfoldable pub rockPGA : Scenario → ℕ
 unfolding lnMedianAt expE coefficientsAt
@@ -169,10 +176,14 @@ alpha c v a = elim (ltb v (c .k1)) [
   | false ↦ pos 0
 ]
 
--- sigma at the base of the site profile: the root of s² - 0.3²
+-- sigma_lnAF, that of the site's amplification, in thousandths
+abbrev pub lnAF : ℕ
+lnAF = 300
+
+-- sigma at the base of the site profile: the root of s² - sigma_lnAF²
 unfoldable pub atBase : ℕ → ℕ
 unfolding rootE
-atBase s = rootE ((s * s - 300 * 300) * E24)
+atBase s = rootE ((s * s - lnAF * lnAF) * E24)
 
 -- what stands under the root of (15): a is alpha, y alpha sigma_lnAB
 unfoldable pub intraVariance : Deviations → ℤ → ℤ
@@ -180,7 +191,7 @@ unfolding mulE times atBase deviationsAt
 intraVariance d a =
     let b : ℤ = pos (atBase (d .s)) in
     let y : ℤ = mulE (pos (atBase (deviationsAt PGA .s))) a in
-    mulE b b +ℤ pos (300 * 300 * E24) +ℤ mulE y y +ℤ mulE y (times (pos (2 * d .rho)) b)
+    mulE b b +ℤ pos (lnAF * lnAF * E24) +ℤ mulE y y +ℤ mulE y (times (pos (2 * d .rho)) b)
 
 -- the intra-event sigma (15)
 unfoldable pub intra : ℕ → Scenario → ℕ

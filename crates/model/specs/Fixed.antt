@@ -13,10 +13,12 @@ use Rattle.request.specs.declared.Style.{Style}
 use Rattle.request.specs.declared.Style.the-variants.{StrikeSlip, Reverse, Normal}
 use Rattle.tables.specs.declared.Coefficients.{Coefficients}
 use Rattle.tables.specs.declared.Deviations.{Deviations}
-use Rattle.tables.specs.Tables.{coefficientsAt, deviationsAt}
+use Rattle.tables.specs.Tables.{PGA, coefficientsAt, deviationsAt}
 use Rattle.model.specs.declared.Scenario.{Scenario}
+use Rattle.model.specs.declared.Fine.{Fine}
 use Rattle.model.specs.declared.Row.{Row}
-use Rattle.model.specs.Equations.{PGA, byMagnitude, slope, linear, least, most, fFltZ, fHngM, fHngZ, fHngDip}
+use Rattle.model.specs.declared.Shown.{Shown}
+use Rattle.model.specs.Equations.{byMagnitude, slope, c100, n100, linear, lnAF, least, most, fFltZ, fHngM, fHngZ, fHngDip}
 
 -- ---- the terms of the median
 unfoldable pub fMagFixed : Coefficients → ℕ → ℤ
@@ -62,11 +64,11 @@ unfolding wallFixed mulDiv
 fHngFixed c x = mulDiv (c .c9) (pos (wallFixed x)) (pos 1000)
 
 abbrev pub siteCFixed : ℕ
-siteCFixed = 1_880000_000
+siteCFixed = c100 * 10000000
 
 -- c (V/k1)^n, from ln(V/k1)
 abbrev pub curveOf : ℤ → ℕ
-curveOf l = 188 * expFixed (mulDiv (pos 118) l (pos 100)) / 1000
+curveOf l = c100 * expFixed (mulDiv (pos n100) l (pos 100)) / 1000
 
 unfoldable pub curveFixed : ℕ → ℕ → ℕ
 unfolding lnQuotient mulDiv expFixed
@@ -112,6 +114,10 @@ unfolding lnMedianAtFixed rockPGAFixed coefficientsAt
 lnMedianFixed i x = lnMedianAtFixed (coefficientsAt i) x (x .vs30) (rockPGAFixed x)
 
 -- ---- the variances
+-- a deviation of Table 3 squared
+abbrev pub squaredFixed : ℕ → ℕ
+squaredFixed n = n * n * 1000
+
 -- a/(a + b)
 abbrev pub shareFixed : ℕ → ℕ → ℕ
 shareFixed a b = a * E9 / (a + b)
@@ -126,23 +132,37 @@ alphaFixed c v a = elim (ltb v (c .k1)) [
 
 unfoldable pub atBaseFixed : ℕ → ℕ
 unfolding root
-atBaseFixed s = root ((s * s - 300 * 300) * 1000000000000)
+atBaseFixed s = root ((s * s - lnAF * lnAF) * 1000000000000)
 
 -- 2 rho sigma_lnYB
 unfoldable pub crossFixed : Deviations → ℕ
 unfolding atBaseFixed
 crossFixed d = 2 * d .rho * atBaseFixed (d .s) / 1000
 
--- s² + y (y + 2 rho sigma_lnYB), as sigma_lnYB² + 0.3² is s²; y is alpha sigma_lnAB
+-- s² + y (y + 2 rho sigma_lnYB), as sigma_lnYB² + sigma_lnAF² is s²; y is alpha sigma_lnAB
 unfoldable pub intraVarianceFixed : Deviations → ℤ → ℤ
 unfolding mulDiv atBaseFixed crossFixed deviationsAt
 intraVarianceFixed d a =
     let y : ℤ = mulDiv (pos (atBaseFixed (deviationsAt PGA .s))) a (pos E9) in
-    pos (d .s * d .s * 1000) +ℤ mulDiv y (y +ℤ pos (crossFixed d)) (pos E9)
+    pos (squaredFixed (d .s)) +ℤ mulDiv y (y +ℤ pos (crossFixed d)) (pos E9)
 
 unfoldable pub varianceFixed : ℕ → Scenario → ℕ
 unfolding intraVarianceFixed alphaFixed rockPGAFixed coefficientsAt deviationsAt
 varianceFixed i x = up (intraVarianceFixed (deviationsAt i) (alphaFixed (coefficientsAt i) (x .vs30) (rockPGAFixed x)))
+
+-- ---- a measure before it is rounded
+unfoldable pub fineFixed : ℕ → Scenario → Fine
+unfolding lnMedianFixed varianceFixed deviationsAt
+fineFixed i x =
+    let v : ℕ = varianceFixed i x in
+    let d : Deviations = deviationsAt i in
+    record {
+      ln = lnMedianFixed i x;
+      intra = v;
+      t = d .t;
+      total = v + squaredFixed (d .t);
+      arbitrary = v + squaredFixed (d .t) + squaredFixed (d .sC);
+    }
 
 -- ---- what is reported
 -- the root of a variance, to the nearest millionth
@@ -150,21 +170,32 @@ unfoldable pub sigmaOf : ℕ → ℕ
 unfolding root
 sigmaOf v = (root (4000 * v) + 1) / 2
 
--- a row of zeros
+unfoldable pub report : Fine → Row
+unfolding nearest expFixed sigmaOf
+report f =
+    record {
+      ln = nearest (f .ln) 1000;
+      median = most 1 (expFixed (f .ln));
+      intra = sigmaOf (f .intra);
+      inter = f .t * 1000;
+      total = sigmaOf (f .total);
+      arbitrary = sigmaOf (f .arbitrary);
+    }
+
+unfoldable pub rowFixed : ℕ → Scenario → Row
+unfolding fineFixed report
+rowFixed i x = report (fineFixed i x)
+
+-- what a sheet shows of a row: one sigma, the total one
+unfoldable pub shownOf : Row → Shown
+shownOf r = record { ln = r .ln; median = r .median; sigma = r .total }
+
+-- ---- zeros
+abbrev pub noFine : Fine
+noFine = record { ln = pos 0; intra = 0; t = 0; total = 0; arbitrary = 0 }
+
 abbrev pub noRow : Row
 noRow = record { ln = pos 0; median = 0; intra = 0; inter = 0; total = 0; arbitrary = 0 }
 
-unfoldable pub rowFixed : ℕ → Scenario → Row
-unfolding lnMedianFixed varianceFixed nearest expFixed sigmaOf deviationsAt
-rowFixed i x =
-    let l : ℤ = lnMedianFixed i x in
-    let v : ℕ = varianceFixed i x in
-    let t2 : ℕ = deviationsAt i .t * deviationsAt i .t * 1000 in
-    record {
-      ln = nearest l 1000;
-      median = most 1 (expFixed l);
-      intra = sigmaOf v;
-      inter = deviationsAt i .t * 1000;
-      total = sigmaOf (v + t2);
-      arbitrary = sigmaOf (v + t2 + deviationsAt i .sC * deviationsAt i .sC * 1000);
-    }
+abbrev pub noShown : Shown
+noShown = record { ln = pos 0; median = 0; sigma = 0 }

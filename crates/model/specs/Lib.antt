@@ -1,4 +1,3 @@
 pub mod Equations
 pub mod Fixed
 pub mod Accuracy
-pub mod OfTables

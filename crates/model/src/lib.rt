@@ -15,6 +15,17 @@ pub struct Scenario {
     pub z25: u64,
 }
 
+// One measure before it is rounded for the report, in units of 10^-9: ln median and the variances of the
+// intra-event, the total and the arbitrary component's sigma. The inter-event sigma is Table 3's t, in
+// thousandths.
+pub struct Fine {
+    pub ln: i64,
+    pub intra: u64,
+    pub t: u64,
+    pub total: u64,
+    pub arbitrary: u64,
+}
+
 // The reported figures of one measure: ln median and the four sigmas in millionths, the median in
 // 10^-10 of g, cm/s or cm.
 pub struct Row {
@@ -24,4 +35,11 @@ pub struct Row {
     pub inter: u64,
     pub total: u64,
     pub arbitrary: u64,
+}
+
+// What a sheet shows of a row: one sigma beside ln median and the median.
+pub struct Shown {
+    pub ln: i64,
+    pub median: u64,
+    pub sigma: u64,
 }

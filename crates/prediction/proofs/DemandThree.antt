@@ -1,25 +1,28 @@
 -- Demand 3 for a request: every row of an accepted request's spectrum is as near the exact values as `Accurate` says, and a refused
 -- one has its number and zeros in all 24 rows. So no spectrum given always, no row copied and no row left zero passes. Assumes
 -- nothing.
-use Prim.Native.Nat.{ℕ, _<_}
-use mathlib.Core.Path.{_≡_, sym, ap, subst}
+use Prim.Native.Nat.{ℕ, _≤_, _<_}
+use mathlib.Core.Path.{_≡_, refl, sym, ap, subst}
+use lib.IntN.{natAbs}
 use lib.ListN.{length, getD, length-replicate, getD-replicate}
 use Rattle.request.specs.declared.Request.{Request}
 use Rattle.outcome.specs.declared.Completed.{Completed}
 use Rattle.outcome.specs.declared.Completion.the-variants as C
 use Rattle.outcome.specs.Answers.{completionOf, numberOf}
-use Rattle.model.specs.Fixed.{noRow}
-use Rattle.model.specs.Accuracy.{Accurate}
+use Rattle.model.specs.declared.Row.{Row}
+use Rattle.model.specs.declared.Shown.{Shown}
+use Rattle.model.specs.Fixed.{shownOf, noRow, noShown}
+use Rattle.model.specs.Accuracy.{exactOf, Accurate}
 use Rattle.model.proofs.Demand.{demand-3}
 use Rattle.prediction.specs.declared.Spectrum.{Spectrum}
-use Rattle.prediction.specs.Spectra.{scenarioOf, refusedWith, spectrumFor, spectrumOf, Small}
+use Rattle.prediction.specs.Spectra.{scenarioOf, refusedWith, spectrumFor, spectrumOf, shownSpectrum, shownSpectrumOf, Small}
 use Rattle.prediction.proofs.Completed.{in-range}
-use Rattle.prediction.proofs.RowLaws.{rows-length, row-is, row-small, zeros-small, spectrum-done, spectrum-refused, by-completion}
+use Rattle.prediction.proofs.RowLaws.{rows-length, row-is, row-small, zeros-small, spectrum-done, spectrum-refused, shown-row, by-completion}
 
 -- ---- accepted
 pub accepted-rows :
     (r : Request) (c : Completed) (k : ℕ) → completionOf r ≡ C.Done c → k < 24
-    → Accurate k (scenarioOf c) (getD (spectrumOf r .rows) k noRow)
+    → Accurate (exactOf k (scenarioOf c)) (getD (spectrumOf r .rows) k noRow)
 accepted-rows r c k e h =
     rw (spectrum-done r c e, row-is (scenarioOf c) k h) (demand-3 k (scenarioOf c) h (in-range r c e))
 
@@ -48,3 +51,24 @@ pub rows-small : (r : Request) (k : ℕ) → k < 24 → Small (getD (spectrumOf 
 rows-small r k h =
     by-completion r (λ c e. rw (spectrum-done r c e) (row-small (scenarioOf c) k h (in-range r c e)))
     (λ n e. subst Small (sym (refused-rows r n k e h)) zeros-small)
+
+-- ---- what is shown of it
+pub shown-number : (r : Request) → shownSpectrumOf r .refusal ≡ spectrumOf r .refusal
+unfolding shownSpectrumOf shownSpectrum
+shown-number r = refl
+
+pub shown-at : (r : Request) (k : ℕ) → getD (shownSpectrumOf r .rows) k noShown ≡ shownOf (getD (spectrumOf r .rows) k noRow)
+unfolding shownSpectrumOf shownSpectrum
+shown-at r k = shown-row (spectrumOf r .rows) k
+
+pub record ShownSmall (s : Shown) : Type 0 where
+  pub ln : natAbs (s .ln) ≤ 15000001
+  pub median : s .median < 9007199254740992
+  pub sigma : s .sigma ≤ 1550000
+
+pub shown-small : (r : Row) → Small r → ShownSmall (shownOf r)
+unfolding shownOf
+shown-small r s = record { ln = s .ln; median = s .median; sigma = s .total }
+
+pub shown-rows-small : (r : Request) (k : ℕ) → k < 24 → ShownSmall (getD (shownSpectrumOf r .rows) k noShown)
+shown-rows-small r k h = subst ShownSmall (sym (shown-at r k)) (shown-small (getD (spectrumOf r .rows) k noRow) (rows-small r k h))

@@ -2,25 +2,25 @@
 -- nothing.
 use Prim.Native.Nat.{ℕ, zero, suc, _+_, _*_, _≤_, _<_}
 use mathlib.Core.Path.{_≡_, refl, sym, ap, subst, _∙_}
-use mathlib.Core.List.{List}
+use mathlib.Core.List.{List, map}
 use native.Mathlib.Omega.{arith}
-use native.Mathlib.Nat.{mul-le-mul, mul-le-mul-right}
 use lib.Dec.{lit≤}
-use lib.ListN.{length, getD}
+use lib.ListN.{length, getD, length-map, List·getD-map}
 use lib.Seq.{ext-getD}
 use Rattle.request.specs.declared.Request.{Request}
 use Rattle.outcome.specs.declared.Completed.{Completed}
 use Rattle.outcome.specs.declared.Completion.{Completion}
 use Rattle.outcome.specs.declared.Completion.the-variants as C
-use Rattle.outcome.specs.Answers.{completionOf}
-use Rattle.tables.specs.Tables.{deviationsAt}
+use Rattle.outcome.specs.Answers.{completionOf, numberOf}
 use Rattle.model.specs.declared.Scenario.{Scenario}
+use Rattle.model.specs.declared.Fine.{Fine}
 use Rattle.model.specs.declared.Row.{Row}
-use Rattle.model.specs.Fixed.{rowFixed, noRow, varianceFixed}
-use Rattle.model.specs.Accuracy.{InRange}
-use Rattle.model.proofs.Fair.{spread-at}
-use Rattle.model.proofs.Reported.{median-fits}
-use Rattle.model.proofs.Sizes.{ln-size, sigma-size, variance-size}
+use Rattle.model.specs.declared.Shown.{Shown}
+use Rattle.model.specs.Fixed.{fineFixed, report, rowFixed, shownOf, noRow, noShown}
+use Rattle.model.specs.Accuracy.{InRange, FineInRange, Exact, exactOf}
+use Rattle.model.proofs.Reported.{FineNear, median-fits}
+use Rattle.model.proofs.Demand.{fine-near, fine-in-range}
+use Rattle.model.proofs.Sizes.{ln-size, sigma-size}
 use Rattle.prediction.specs.Spectra.{scenarioOf, rowsFrom, rowsOf, refusedWith, spectrumFor, spectrumOf, Small}
 
 -- ---- the rows
@@ -77,24 +77,40 @@ by-completion {P} r f g = go (completionOf r) refl
     go (C.Done c) e = f c e
     go (C.Refused n) e = g n e
 
+-- the number of a refused completion is the refusal's
+pub refused-by :
+    (r : Request) (a : Completion) (m n : ℕ) → a ≡ completionOf r → a ≡ C.Refused n → m ≡ numberOf a → completionOf r ≡ C.Refused m
+refused-by r a m n p q h = sym p ∙ q ∙ ap C.Refused (sym (h ∙ ap numberOf q))
+
+-- ---- what is shown
+pub shown-row : (rows : List Row) (k : ℕ) → getD (map shownOf rows) k noShown ≡ shownOf (getD rows k noRow)
+unfolding shownOf
+shown-row rows k = List·getD-map shownOf rows k noRow
+
+-- an array that is right at every index is the list
+pub shown-are :
+    (x : Scenario) (rows : List Shown) → length rows ≡ 24 → ((k : ℕ) → k < 24 → getD rows k noShown ≡ shownOf (rowFixed k x))
+    → rows ≡ map shownOf (rowsOf x)
+shown-are x rows e h =
+    ext-getD noShown rows (map shownOf (rowsOf x)) (e ∙ sym (length-map (rowsOf x) shownOf ∙ rows-length x))
+    (λ i l. let k : i < 24 = omega (arith, e) in h i k ∙ ap shownOf (sym (row-is x i k)) ∙ sym (shown-row (rowsOf x) i))
+
 -- ---- how large
+pub report-small : (e : Exact) (f : Fine) → FineNear e f → FineInRange f → Small (report f)
+unfolding report
+report-small e f n r =
+    record {
+      ln = ln-size (f .ln) (r .ln-low) (r .ln-high);
+      median = median-fits (f .ln) (e .ln) (n .ln-near) (n .ln-between);
+      intra = sigma-size (f .intra) (r .intra-high);
+      inter = omega (arith, r .t-high);
+      total = sigma-size (f .total) (r .total-high);
+      arbitrary = sigma-size (f .arbitrary) (r .arbitrary-high);
+    }
+
 pub fixed-small : (i : ℕ) (x : Scenario) → i < 24 → InRange x → Small (rowFixed i x)
 unfolding rowFixed
-fixed-small i x h r =
-    let v = variance-size i x h r in
-    let d = spread-at i h in
-    let t : ℕ = deviationsAt i .t * deviationsAt i .t * 1000 in
-    let a : ℕ = deviationsAt i .sC * deviationsAt i .sC * 1000 in
-    let t-high : t ≤ 250000000 = mul-le-mul-right 1000 (mul-le-mul (d .t-high) (d .t-high)) in
-    let a-high : a ≤ 90000000 = mul-le-mul-right 1000 (mul-le-mul (d .sC-high) (d .sC-high)) in
-    record {
-      ln = ln-size i x h r;
-      median = median-fits i x h r;
-      intra = sigma-size (varianceFixed i x) (v .0) (omega (arith, v .1)) .1;
-      inter = omega (arith, d .t-high);
-      total = sigma-size (varianceFixed i x + t) (omega (arith, v .0)) (omega (arith, v .1, t-high)) .1;
-      arbitrary = sigma-size (varianceFixed i x + t + a) (omega (arith, v .0)) (omega (arith, v .1, t-high, a-high)) .1;
-    }
+fixed-small i x h r = report-small (exactOf i x) (fineFixed i x) (fine-near i x h r) (fine-in-range i x h r)
 
 pub zeros-small : Small noRow
 zeros-small =

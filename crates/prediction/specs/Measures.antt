@@ -1,33 +1,48 @@
--- The answer for one measure: median and total sigma as f64, or a refusal's number. Definitions only.
+-- The answer for one measure: the median and the sigma that a sheet shows, as f64, or a refusal's number. Definitions only.
 use Prim.Native.Nat.{ℕ}
 use mathlib.Core.Bool.{cond}
 use lib.Dec.{ltb}
 use lib.IntN.{pos}
+use lib.Ieee.{Float}
+use Rattle.refusals.specs.Order as No
 use Rattle.request.specs.declared.Request.{Request}
 use Rattle.outcome.specs.declared.Completion.{Completion}
 use Rattle.outcome.specs.declared.Completion.the-variants as C
 use Rattle.outcome.specs.Answers.{completionOf}
-use Rattle.model.specs.declared.Row.{Row}
-use Rattle.model.specs.Fixed.{rowFixed}
+use Rattle.tables.specs.Tables.{measures}
+use Rattle.model.specs.declared.Shown.{Shown}
+use Rattle.model.specs.Fixed.{rowFixed, shownOf}
 use Rattle.prediction.specs.declared.measure.OneMeasure.{OneMeasure}
 use Rattle.prediction.specs.declared.measure.OneMeasure.the-variants as M
 use Rattle.prediction.specs.Spectra.{scenarioOf}
 use Rattle.prediction.specs.Floats.{float}
 
--- of a row, its median and total sigma
-unfoldable pub valueOf : Row → OneMeasure
-valueOf r = M.Value (float (pos (r .median))) (float (pos (r .total)))
-
--- the last measure's number
-abbrev pub lastMeasure : ℕ
-lastMeasure = 23
+-- of what is shown, the median and the sigma
+unfoldable pub shownValue : Shown → OneMeasure
+shownValue s = M.Value (float (pos (s .median))) (float (pos (s .sigma)))
 
 -- by the completion's case; the measure's number is tested after all that is tested of the request
 unfoldable pub measureFor : Completion → ℕ → OneMeasure
-unfolding valueOf rowFixed scenarioOf
-measureFor (C.Done c) k = cond (ltb lastMeasure k) (M.Refused 15) (valueOf (rowFixed k (scenarioOf c)))
+unfolding shownValue shownOf rowFixed scenarioOf
+measureFor (C.Done c) k = cond (ltb k measures) (shownValue (shownOf (rowFixed k (scenarioOf c)))) (M.Refused No.noMeasure)
 measureFor (C.Refused n) k = M.Refused n
 
 unfoldable pub measureOf : Request → ℕ → OneMeasure
 unfolding measureFor completionOf
 measureOf r k = measureFor (completionOf r) k
+
+-- ---- what an answer says
+-- the refusal's number, 0 for none
+unfoldable pub refusalIn : OneMeasure → ℕ
+refusalIn (M.Value y s) = 0
+refusalIn (M.Refused n) = n
+
+-- the median, or x where there is none
+unfoldable pub medianIn : OneMeasure → Float → Float
+medianIn (M.Value y s) x = y
+medianIn (M.Refused n) x = x
+
+-- the sigma, likewise
+unfoldable pub sigmaIn : OneMeasure → Float → Float
+sigmaIn (M.Value y s) x = s
+sigmaIn (M.Refused n) x = x

@@ -1,6 +1,6 @@
 -- A request's spectrum: the 24 rows of its completed figures, or the refusal's number with zeros in all else. Definitions only.
 use Prim.Native.Nat.{ℕ, zero, suc, _+_, _≤_, _<_}
-use mathlib.Core.List.{List, [], _∷_}
+use mathlib.Core.List.{List, [], _∷_, map}
 use lib.IntN.{natAbs}
 use lib.ListN.{replicate}
 use Rattle.request.specs.declared.Request.{Request}
@@ -11,8 +11,10 @@ use Rattle.outcome.specs.declared.Completion.the-variants as C
 use Rattle.outcome.specs.Answers.{completionOf}
 use Rattle.model.specs.declared.Scenario.{Scenario}
 use Rattle.model.specs.declared.Row.{Row}
-use Rattle.model.specs.Fixed.{rowFixed, noRow}
+use Rattle.tables.specs.Tables.{measures}
+use Rattle.model.specs.Fixed.{rowFixed, shownOf, noRow}
 use Rattle.prediction.specs.declared.Spectrum.{Spectrum}
+use Rattle.prediction.specs.declared.shown.ShownSpectrum.{ShownSpectrum}
 
 -- what the model reads of a completed request
 unfoldable pub scenarioOf : Completed → Scenario
@@ -37,11 +39,11 @@ rowsFrom (suc n) k x = rowFixed k x ∷ rowsFrom n (k + 1) x
 
 unfoldable pub rowsOf : Scenario → List Row
 unfolding rowsFrom
-rowsOf x = rowsFrom 24 0 x
+rowsOf x = rowsFrom measures 0 x
 
 -- zeros beside a refusal's number
 unfoldable pub refusedWith : ℕ → Spectrum
-refusedWith n = record { refusal = n; rows = replicate 24 noRow }
+refusedWith n = record { refusal = n; rows = replicate measures noRow }
 
 -- by the completion's case
 unfoldable pub spectrumFor : Completion → Spectrum
@@ -52,6 +54,15 @@ spectrumFor (C.Refused n) = refusedWith n
 unfoldable pub spectrumOf : Request → Spectrum
 unfolding spectrumFor completionOf
 spectrumOf r = spectrumFor (completionOf r)
+
+-- what a sheet shows of a spectrum
+unfoldable pub shownSpectrum : Spectrum → ShownSpectrum
+unfolding shownOf
+shownSpectrum s = record { refusal = s .refusal; rows = map shownOf (s .rows) }
+
+unfoldable pub shownSpectrumOf : Request → ShownSpectrum
+unfolding shownSpectrum spectrumOf
+shownSpectrumOf r = shownSpectrum (spectrumOf r)
 
 -- how large the figures of a row are: ln median at most 15 and a millionth, the median below 2^53, a sigma at most 1.55
 pub record Small (r : Row) : Type 0 where

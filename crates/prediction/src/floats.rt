@@ -3,10 +3,12 @@
 use crate::predict;
 use model::Row;
 use request::Request;
+use tables::MEASURES;
 ghost use mathlib.Core.Path.{_≡_};
 ghost use Prim.Native.Nat.{ℕ, _<_, _≤_};
 ghost use lib.IntN.{pos, natAbs};
 ghost use lib.ListN.{length, getD};
+ghost use Rattle.tables.specs.Tables.{measures};
 ghost use Rattle.model.specs.Fixed.{noRow};
 ghost use Rattle.prediction.specs.Spectra.{Small};
 ghost use Rattle.prediction.specs.Floats.{Is, Same, float, floatsOf, noFloats, floatSpectrumOf};
@@ -61,8 +63,8 @@ fn float_row(r: Row) -> FloatRow
 
 // All rows.
 fn float_rows(rows: [Row; 24]) -> [FloatRow; 24]
-    requires { ⌜ ((k : ℕ) → k < 24 → Small (getD rows k noRow)) ⌝ }
-    ensures { λ f. ⌜ (length f ≡ 24) × ((k : ℕ) → k < 24 → getD f k noFloats ≡ floatsOf (getD rows k noRow)) ⌝ }
+    requires { ⌜ ((k : ℕ) → k < measures → Small (getD rows k noRow)) ⌝ }
+    ensures { λ f. ⌜ (length f ≡ measures) × ((k : ℕ) → k < measures → getD f k noFloats ≡ floatsOf (getD rows k noRow)) ⌝ }
 {
     let none = FloatRow {
         ln: 0.0,
@@ -74,7 +76,7 @@ fn float_rows(rows: [Row; 24]) -> [FloatRow; 24]
     };
     let mut out = [none; 24];
     let mut k = 0usize;
-    while k < 24 {
+    while k < MEASURES {
         let r = rows[k];
         out[k] = float_row(r);
         k += 1;

@@ -2,20 +2,25 @@
 // document 01's order, handed on from the completion with zeros in all else.
 mod floats;
 mod measure;
+mod shown;
 
 use completion::Completed;
 use completion::Completion;
 use completion::complete;
+use completion::number_of;
 pub use floats::FloatRow;
 pub use floats::FloatSpectrum;
 pub use floats::predict_floats;
 pub use measure::OneMeasure;
 pub use measure::predict_measure;
-use measures::rows_of;
+pub use measure::refusal_in;
 use model::Row;
 use model::Scenario;
+use reports::rows_of;
 use request::Request;
 use request::style_of;
+pub use shown::ShownSpectrum;
+pub use shown::predict_shown;
 ghost use mathlib.Core.Path.{_≡_};
 ghost use Rattle.prediction.specs.Spectra.{scenarioOf, refusedWith, spectrumOf};
 
@@ -72,10 +77,7 @@ pub fn predict(r: Request) -> Spectrum
 {
     let c = complete(r);
     let Completion::Done(f) = c else {
-        match c {
-            Completion::Refused(n) => return refused(n),
-            Completion::Done(_) => return refused(0),
-        }
+        return refused(number_of(c));
     };
     let x = scenario_of(f);
     let rows = rows_of(x);

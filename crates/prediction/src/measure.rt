@@ -3,21 +3,28 @@ use crate::floats::of_nat;
 use crate::scenario_of;
 use completion::Completion;
 use completion::complete;
-use measures::row_at;
+use completion::number_of;
+use refusals::NO_MEASURE;
+use reports::shown_at;
 use request::Request;
+use tables::MEASURES;
 ghost use mathlib.Core.Path.{_≡_};
-ghost use Rattle.prediction.specs.Measures.{measureOf};
+ghost use Rattle.prediction.specs.Measures.{measureOf, refusalIn};
 
-// The last measure's number, PGD.
-const LAST: u64 = 23;
-
-// The refusal of a measure that is none of the 24.
-const NO_MEASURE: u32 = 15;
-
-// The median and the total sigma, or the refusal's number.
+// The median and the sigma that a sheet shows, or the refusal's number.
 pub enum OneMeasure {
     Value(f64, f64),
     Refused(u32),
+}
+
+// The refusal's number, 0 for none.
+pub fn refusal_in(a: OneMeasure) -> u32
+    ensures { λ n. ⌜ n ≡ refusalIn a ⌝ }
+{
+    match a {
+        OneMeasure::Value(_, _) => 0,
+        OneMeasure::Refused(n) => n,
+    }
 }
 
 // Predicts one measure of any request. It asks for nothing: the measure may be any number.
@@ -26,17 +33,14 @@ pub fn predict_measure(r: Request, measure: u64) -> OneMeasure
 {
     let c = complete(r);
     let Completion::Done(f) = c else {
-        match c {
-            Completion::Refused(n) => return OneMeasure::Refused(n),
-            Completion::Done(_) => return OneMeasure::Refused(0),
-        }
+        return OneMeasure::Refused(number_of(c));
     };
-    if LAST < measure {
+    if MEASURES as u64 <= measure {
         return OneMeasure::Refused(NO_MEASURE);
     }
     let x = scenario_of(f);
-    let row = row_at(measure as usize, x);
+    let row = shown_at(measure as usize, x);
     let median = row.median;
-    let total = row.total;
-    OneMeasure::Value(of_nat(median), of_nat(total))
+    let sigma = row.sigma;
+    OneMeasure::Value(of_nat(median), of_nat(sigma))
 }

@@ -10,9 +10,8 @@ use Rattle.exact.proofs.Root.{root-unique}
 use Rattle.fixed.specs.Fixed.{E9, mulDiv}
 use Rattle.fixed.proofs.SignedLaws.{mulDiv-zero}
 use Rattle.tables.specs.declared.Deviations.{Deviations}
-use Rattle.tables.specs.Tables.{table3, deviationsAt}
-use Rattle.model.specs.Equations.{PGA}
-use Rattle.model.specs.Fixed.{atBaseFixed, crossFixed, intraVarianceFixed, sigmaOf}
+use Rattle.tables.specs.Tables.{PGA, table3, deviationsAt}
+use Rattle.model.specs.Fixed.{squaredFixed, atBaseFixed, crossFixed, intraVarianceFixed, sigmaOf}
 
 -- ---- the steps
 -- sigma_lnAB
@@ -28,25 +27,21 @@ rock-is = refl
 abbrev pub yOf : ℤ → ℤ
 yOf a = mulDiv (pos rockSigma) a (pos E9)
 
--- s²
-abbrev pub squareOf : Deviations → ℕ
-squareOf d = d .s * d .s * 1000
-
 -- what is added to s²
 abbrev pub addedOf : Deviations → ℤ → ℤ
 addedOf d a = mulDiv (yOf a) (yOf a +ℤ pos (crossFixed d)) (pos E9)
 
 -- nothing is where alpha is 0
-pub flat : (d : Deviations) → squareOf d ≡ up (intraVarianceFixed d (pos 0))
+pub flat : (d : Deviations) → squaredFixed (d .s) ≡ up (intraVarianceFixed d (pos 0))
 unfolding intraVarianceFixed
 flat d =
     let none : yOf (pos 0) ≡ pos 0 = mulDiv-zero (pos rockSigma) (pos 0) (pos E9) (omega (arith, mul-zero rockSigma)) in
     let more : mulDiv (pos 0) (pos 0 +ℤ pos (crossFixed d)) (pos E9) ≡ pos 0 =
     mulDiv-zero (pos 0) (pos 0 +ℤ pos (crossFixed d)) (pos E9) (omega (arith, zero-mul (natAbs (pos 0 +ℤ pos (crossFixed d))))) in
     sym
-    (ap (λ (y : ℤ). up (pos (squareOf d) +ℤ mulDiv y (y +ℤ pos (crossFixed d)) (pos E9))) none
-    ∙ ap (λ (z : ℤ). up (pos (squareOf d) +ℤ z)) more
-    ∙ plain (squareOf d))
+    (ap (λ (y : ℤ). up (pos (squaredFixed (d .s)) +ℤ mulDiv y (y +ℤ pos (crossFixed d)) (pos E9))) none
+    ∙ ap (λ (z : ℤ). up (pos (squaredFixed (d .s)) +ℤ z)) more
+    ∙ plain (squaredFixed (d .s)))
   where
     plain : (n : ℕ) → n + 0 ≡ n
     plain n = omega arith
@@ -61,6 +56,6 @@ own-root r = sym (root-unique (r * r) r (record { low = le-refl (r * r); high = 
 square-is : (s : ℕ) → 4000 * (s * s * 1000) ≡ 2000 * s * (2000 * s)
 square-is s = omega (arith, mul-mul-mul-comm 2000 s 2000 s)
 
-pub whole-sigma : (s : ℕ) → sigmaOf (s * s * 1000) ≡ s * 1000
+pub whole-sigma : (s : ℕ) → sigmaOf (squaredFixed s) ≡ s * 1000
 unfolding sigmaOf
 whole-sigma s = ap (λ (t : ℕ). (t + 1) / 2) (ap root (square-is s) ∙ own-root (2000 * s)) ∙ omega arith

@@ -1,7 +1,8 @@
 // The sigmas (14 to 18), from variances in units of 10^-9. Each function equals a definition of model's
 // specs/Fixed.
-mod rows;
+mod fixed;
 
+use reckon::E9;
 use reckon::mul_div;
 use reckon::whole_root;
 use tables::Deviations;
@@ -11,19 +12,20 @@ ghost use Prim.Native.Nat.{_≤_};
 ghost use lib.IntN.{pos, natAbs};
 ghost use Rattle.exact.specs.Near.{up};
 ghost use Rattle.tables.specs.Tables.{table3};
-ghost use Rattle.model.specs.Fixed.{crossFixed, intraVarianceFixed, sigmaOf};
-ghost use Rattle.model.specs.OfTables.{OfTable3};
+ghost use Rattle.model.specs.Fixed.{squaredFixed, crossFixed, intraVarianceFixed, sigmaOf};
+ghost use Rattle.tables.specs.OfTables.{OfTable3};
 ghost use Rattle.sigmas.specs.Settling.{settledOf};
 
-// One, in units of 10^-9.
-const E9: i64 = 1_000_000_000;
+// One, in units of 10^-9, to divide signed numbers by.
+const ONE: i64 = E9 as i64;
 
 // sigma_lnAB: PGA's at the base of the site profile, which Table 3 alone fixes; held to it by a computed
 // test.
 const ROCK: i64 = 372_134_384;
 
 // What Table 3 alone fixes of a measure, so that no request spends a root on it: 2 rho sigma_lnYB, in units
-// of 10^-9, and on a linear site the total sigma (16) and that of an arbitrary component (18).
+// of 10^-9, and on a linear site, where s² is the intra-event variance, the total sigma (16) and that of an
+// arbitrary component (18).
 pub struct Settled {
     pub cross: u64,
     pub total: u64,
@@ -35,7 +37,15 @@ pub struct Settled {
 pub fn all_settled() -> [Settled; 24]
     ensures { λ r. ⌜ r ≡ map settledOf table3 ⌝ }
 {
-    rows::ROWS
+    fixed::ROWS
+}
+
+// A deviation of Table 3 squared, in units of 10^-9.
+pub fn squared(n: u64) -> u64
+    requires { ⌜ n ≤ 1000 ⌝ }
+    ensures { λ r. ⌜ r ≡ squaredFixed n ⌝ }
+{
+    n * n * 1_000
 }
 
 // The intra-event variance (15). On a linear site alpha is 0 and nothing is added to s².
@@ -43,12 +53,12 @@ pub fn intra_variance(d: Deviations, cross: u64, alpha: i64) -> u64
     requires { ⌜ OfTable3 d × (cross ≡ crossFixed d) × (natAbs alpha ≤ 2671000367) ⌝ }
     ensures { λ r. ⌜ r ≡ up (intraVarianceFixed d alpha) ⌝ }
 {
-    let linear = d.s * d.s * 1_000;
+    let linear = squared(d.s);
     if alpha == 0 {
         return linear;
     }
-    let y = mul_div(ROCK, alpha, E9);
-    let more = linear as i64 + mul_div(y, y + cross as i64, E9);
+    let y = mul_div(ROCK, alpha, ONE);
+    let more = linear as i64 + mul_div(y, y + cross as i64, ONE);
     if more < 0 { 0 } else { more as u64 }
 }
 
@@ -60,13 +70,37 @@ fn sigma_of(v: u64) -> u64
     (whole_root(4_000 * v) + 1) / 2
 }
 
-// The root of a variance. On a linear site it is known, and none is taken.
-pub fn sigma_or(alpha: i64, linear: u64, v: u64) -> u64
-    requires { ⌜ (alpha ≡ pos 0 → linear ≡ sigmaOf v) × (v ≤ 2400000000) ⌝ }
+// The root of a variance. Where that is `at`, the root is known and none is taken.
+fn sigma_or(v: u64, at: u64, known: u64) -> u64
+    requires { ⌜ (known ≡ sigmaOf at) × (v ≤ 2400000000) ⌝ }
     ensures { λ r. ⌜ r ≡ sigmaOf v ⌝ }
 {
-    if alpha != 0 {
-        return sigma_of(v);
+    if v == at {
+        return known;
     }
-    linear
+    sigma_of(v)
+}
+
+// The intra-event sigma (15), known to be s where s² is its variance.
+pub fn intra_of(d: Deviations, v: u64) -> u64
+    requires { ⌜ OfTable3 d × (v ≤ 2400000000) ⌝ }
+    ensures { λ r. ⌜ r ≡ sigmaOf v ⌝ }
+{
+    sigma_or(v, squared(d.s), d.s * 1_000)
+}
+
+// The total sigma (16), known where its variance is a linear site's.
+pub fn total_of(d: Deviations, f: Settled, v: u64) -> u64
+    requires { ⌜ OfTable3 d × (f ≡ settledOf d) × (v ≤ 2400000000) ⌝ }
+    ensures { λ r. ⌜ r ≡ sigmaOf v ⌝ }
+{
+    sigma_or(v, squared(d.s) + squared(d.t), f.total)
+}
+
+// The arbitrary component's (18), likewise.
+pub fn arbitrary_of(d: Deviations, f: Settled, v: u64) -> u64
+    requires { ⌜ OfTable3 d × (f ≡ settledOf d) × (v ≤ 2400000000) ⌝ }
+    ensures { λ r. ⌜ r ≡ sigmaOf v ⌝ }
+{
+    sigma_or(v, squared(d.s) + squared(d.t) + squared(d.sC), f.arbitrary)
 }

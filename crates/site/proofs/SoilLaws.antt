@@ -15,11 +15,11 @@ use Rattle.site.specs.declared.Soil.{Soil}
 use Rattle.model.specs.Accuracy.{InRange}
 use Rattle.model.specs.Equations.{least}
 use Rattle.model.specs.Fixed.{curveFixed, rockPGAFixed, shareFixed, siteCFixed}
-use Rattle.model.specs.OfTables.{OfTable2}
+use Rattle.tables.specs.OfTables.{OfTable2}
 use Rattle.site.specs.Sharing.{soilOf}
 use Rattle.model.proofs.Curve.{Paired, quotient-size}
 use Rattle.model.proofs.Median.{rock-is-near}
-use Rattle.model.proofs.OfTables.{fair-of}
+use Rattle.model.proofs.Fair.{fair-of}
 use Rattle.model.proofs.SiteNear.{paired, capped}
 use Rattle.model.proofs.Sizes.{logarithms-size}
 

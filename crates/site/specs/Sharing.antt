@@ -5,19 +5,17 @@ use lib.Dec.{ltb}
 use lib.IntN.{pos, _-ℤ_}
 use Rattle.fixed.specs.Fixed.{lnFixed, lnQuotient}
 use Rattle.model.specs.declared.Scenario.{Scenario}
-use Rattle.site.specs.declared.shared.Shared.{Shared}
+use Rattle.site.specs.declared.rock.Rock.{Rock}
 use Rattle.site.specs.declared.Soil.{Soil}
 use Rattle.model.specs.Equations.{least}
-use Rattle.model.specs.Fixed.{wallFixed, deepFixed, rockPGAFixed, siteCFixed, shareFixed, curveFixed}
+use Rattle.model.specs.Fixed.{rockPGAFixed, siteCFixed, shareFixed, curveFixed}
 
 -- once for a request
-unfoldable pub sharedOf : Scenario → Shared
-unfolding wallFixed deepFixed rockPGAFixed lnFixed
-sharedOf x =
+unfoldable pub rockOf : Scenario → Rock
+unfolding rockPGAFixed lnFixed
+rockOf x =
     record {
-      wall = wallFixed x;
-      deep = deepFixed (x .z25);
-      rock = rockPGAFixed x;
+      pga = rockPGAFixed x;
       log = lnFixed (rockPGAFixed x + siteCFixed);
       share = shareFixed (rockPGAFixed x) siteCFixed;
     }

@@ -1,17 +1,16 @@
-// The site's response: what all measures of a request share, A1100 among it; what the measures of one
-// k1 share; the site's term (11) and alpha (17), in units of 10^-9. Each function equals a definition of
+// The site's response: A1100 and what is made of it, once for a request; what the measures of one k1
+// share; the site's term (11) and alpha (17), in units of 10^-9. Each function equals a definition of
 // model's specs/Fixed or of specs/Sharing.
-mod shared;
+mod rock;
 
 use model::Scenario;
 use reckon::exp_fixed;
 use reckon::ln_fixed;
 use reckon::ln_quotient;
 use reckon::mul_div;
-pub use shared::PGA;
-pub use shared::Shared;
-use shared::share_of;
-pub use shared::shared_of;
+pub use rock::Rock;
+pub use rock::rock_of;
+use rock::share_of;
 use tables::Coefficients;
 ghost use mathlib.Core.Path.{_≡_};
 ghost use Prim.Native.Nat.{_≤_, _<_};
@@ -19,8 +18,13 @@ ghost use lib.IntN.{natAbs};
 ghost use Rattle.model.specs.Equations.{least, linear};
 ghost use Rattle.model.specs.Accuracy.{InRange};
 ghost use Rattle.model.specs.Fixed.{curveOf, fSiteFixed, alphaFixed, rockPGAFixed};
-ghost use Rattle.model.specs.OfTables.{OfTable2};
-ghost use Rattle.site.specs.Sharing.{sharedOf, soilOf};
+ghost use Rattle.tables.specs.OfTables.{OfTable2};
+ghost use Rattle.site.specs.Sharing.{rockOf, soilOf};
+
+// c and n, in hundredths.
+const C: u64 = 188;
+
+const N: i64 = 118;
 
 // What the measures of one k1 see of the soil: ln(V/k1), and below k1 by how much the logarithm and
 // the share of A1100 differ from those on rock.
@@ -36,7 +40,7 @@ fn curve_of(ratio: i64) -> u64
     requires { ⌜ (natAbs ratio ≤ 2000000005) × (curveOf ratio ≤ 1900000000) ⌝ }
     ensures { λ r. ⌜ r ≡ curveOf ratio ⌝ }
 {
-    188 * exp_fixed(mul_div(118, ratio, 100)) / 1_000
+    C * exp_fixed(mul_div(N, ratio, 100)) / 1_000
 }
 
 // The smaller of Vs30 and 1100, from where on the response stays the same.
@@ -47,15 +51,15 @@ fn at_most_1100(v: u64) -> u64
 }
 
 // The soil of a k1.
-pub fn soil_of(c: Coefficients, x: Scenario, s: Shared) -> Soil
-    requires { ⌜ OfTable2 c × InRange x × (s ≡ sharedOf x) ⌝ }
+pub fn soil_of(c: Coefficients, x: Scenario, rock: Rock) -> Soil
+    requires { ⌜ OfTable2 c × InRange x × (rock ≡ rockOf x) ⌝ }
     ensures { λ r. ⌜ r ≡ soilOf (c .k1) x ⌝ }
 {
     if x.vs30 < c.k1 {
         let ratio = ln_quotient(x.vs30, c.k1);
         let curve = curve_of(ratio);
-        let gain = ln_fixed(s.rock + curve) - s.log;
-        let swing = share_of(s.rock, curve) as i64 - s.share as i64;
+        let gain = ln_fixed(rock.pga + curve) - rock.log;
+        let swing = share_of(rock.pga, curve) as i64 - rock.share as i64;
         return Soil {
             k1: c.k1,
             ratio: ratio,
@@ -76,7 +80,7 @@ fn linear_of(c: Coefficients) -> i64
     requires { ⌜ OfTable2 c ⌝ }
     ensures { λ r. ⌜ r ≡ linear c ⌝ }
 {
-    100 * c.c10 + 118 * c.k2
+    100 * c.c10 + N * c.k2
 }
 
 // The term at a Vs30 from k1 up, which reads no A1100.

@@ -1,5 +1,6 @@
 // The terms of the median that read no soil, in units of 10^-9: magnitude, distance, style of faulting,
 // hanging wall and basin. Each function equals a definition of model's specs/Fixed.
+use factors::Factors;
 use model::Scenario;
 use reckon::ln_fixed;
 use reckon::mul_div;
@@ -10,8 +11,9 @@ ghost use Prim.Native.Nat.{_-_, _≤_};
 ghost use lib.IntN.{pos, natAbs};
 ghost use Rattle.model.specs.Equations.{fFltZ};
 ghost use Rattle.model.specs.Accuracy.{InRange};
+ghost use Rattle.factors.specs.Factoring.{factorsOf};
 ghost use Rattle.model.specs.Fixed.{fMagFixed, fDisFixed, fFltFixed, wallFixed, fHngFixed, deepFixed, fSedFixed, lnSum};
-ghost use Rattle.model.specs.OfTables.{OfTable2};
+ghost use Rattle.tables.specs.OfTables.{OfTable2};
 ghost use Rattle.terms.specs.Paths.{pathOf};
 
 // The logarithm of RRUP² + c6², for the measures of one c6.
@@ -103,15 +105,15 @@ fn f_sed(c: Coefficients, z: u64, deep: u64) -> i64
 }
 
 // ln Y (1), the site term known.
-pub fn ln_sum(c: Coefficients, x: Scenario, wall: u64, deep: u64, path: Path, site: i64) -> i64
-    requires { ⌜ OfTable2 c × InRange x × (wall ≡ wallFixed x) × (deep ≡ deepFixed (x .z25)) × (path ≡ pathOf (c .c6) x) × (natAbs site ≤ 13100000000) ⌝ }
+pub fn ln_sum(c: Coefficients, x: Scenario, f: Factors, path: Path, site: i64) -> i64
+    requires { ⌜ OfTable2 c × InRange x × (f ≡ factorsOf x) × (path ≡ pathOf (c .c6) x) × (natAbs site ≤ 13100000000) ⌝ }
     ensures { λ r. ⌜ r ≡ lnSum c x site ⌝ }
 {
     let style = x.style;
     f_mag(c, x.m)
         + f_dis(c, x, path)
         + f_flt(c, style, x.ztor)
-        + f_hng(c, x, wall)
+        + f_hng(c, x, f.wall)
         + site
-        + f_sed(c, x.z25, deep)
+        + f_sed(c, x.z25, f.deep)
 }

@@ -43,8 +43,8 @@ write-completion-requires c κs = search needs
 enum-told-3 : tie.Need-enum-told-3
 enum-told-3 c = search needs
 
-predict-requires : tie.Need-predict-requires
-predict-requires c κs = search needs
+predict-shown-requires : tie.Need-predict-shown-requires
+predict-shown-requires c κs = search needs
 
 write-spectrum-requires : tie.Need-write-spectrum-requires
 write-spectrum-requires c κs = search needs
@@ -75,7 +75,7 @@ returns-3 c =
     let t = k .before .before in
     let r = t .before .before .before in
     let s = r .before .before .before .before .before in
-    rw (t .enum-told3 .given .1, prediction-lines (now (s .args .s)) (r .r .given .0 .0) (read r), ← k .predict .ensures) (w .write-spectrum .ensures)
+    rw (t .enum-told3 .given .1, prediction-lines (now (s .args .s)) (r .r .given .0 .0) (read r), ← k .predict-shown .ensures) (w .write-spectrum .ensures)
 
 pub answer-line-spec : {M : Type 1} → statement M
 answer-line-spec =
@@ -91,7 +91,7 @@ answer-line-spec =
     complete-requires
     write-completion-requires
     enum-told-3
-    predict-requires
+    predict-shown-requires
     write-spectrum-requires
     same-length-2
     returns-2

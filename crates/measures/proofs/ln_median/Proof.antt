@@ -8,52 +8,44 @@ use mir.Val.{SFits}
 use mir.Facts.{toZ-ofZ}
 use Rattle.exact.proofs.Signed.{sfits, sfits-abs}
 use Rattle.tables.specs.declared.Coefficients.{Coefficients}
-use Rattle.site.specs.declared.shared.Shared.{Shared}
-use Rattle.model.specs.Fixed.{wallFixed, deepFixed, fSiteFixed, rockPGAFixed, lnSum, lnMedianAtFixed, lnMedianFixed}
-use Rattle.model.specs.OfTables.{OfTable2}
-use Rattle.site.specs.Sharing.{sharedOf}
+use Rattle.model.specs.Fixed.{fSiteFixed, rockPGAFixed, lnSum, lnMedianAtFixed, lnMedianFixed}
+use Rattle.tables.specs.OfTables.{OfTable2}
 use Rattle.model.proofs.Median.{rock-is-near, lnMedian-size}
-use Rattle.model.proofs.OfTables.{fair-of, of-row}
+use Rattle.model.proofs.Fair.{fair-of}
 use Rattle.model.proofs.Sizes.{fSite-size}
+use Rattle.measures.proofs.MeasureRead.{c-is, of-table-2}
 use Rattle.measures.proofs.ln_median.Statement.{statement}
 use Rattle.measures.proofs.ln_median.Tie as tie
 
-row : (c : tie.Start) → OfTable2 (c .args .c)
-row c = of-row (c .args .i) (c .args .c) (c .pre .0) (c .pre .1)
+row : (c : tie.Start) → OfTable2 (c .args .m .c)
+row c = of-table-2 (c .args .m) (c .pre .0)
 
-wall-is : (c : tie.Start) → c .args .s .wall ≡ wallFixed (c .args .x)
-unfolding sharedOf
-wall-is c = ap (λ (s : Shared). s .wall) (c .pre .3)
-
-deep-is : (c : tie.Start) → c .args .s .deep ≡ deepFixed (c .args .x .z25)
-unfolding sharedOf
-deep-is c = ap (λ (s : Shared). s .deep) (c .pre .3)
-
-site-small : (c : tie.Start) → natAbs (fSiteFixed (c .args .c) (c .args .x .vs30) (rockPGAFixed (c .args .x))) ≤ 13100000000
+site-small : (c : tie.Start) → natAbs (fSiteFixed (c .args .m .c) (c .args .x .vs30) (rockPGAFixed (c .args .x))) ≤ 13100000000
 site-small c =
-    fSite-size (c .args .c) (c .args .x .vs30) _ _ (fair-of (c .args .c) (row c)) (c .pre .2 .vs30-low) (c .pre .2 .vs30-high)
-    (rock-is-near (c .args .x) (c .pre .2))
+    fSite-size (c .args .m .c) (c .args .x .vs30) _ _ (fair-of (c .args .m .c) (row c)) (c .pre .1 .vs30-low) (c .pre .1 .vs30-high)
+    (rock-is-near (c .args .x) (c .pre .1))
 
-site-fits : (c : tie.Start) → SFits w64 (fSiteFixed (c .args .c) (c .args .x .vs30) (rockPGAFixed (c .args .x)))
+site-fits : (c : tie.Start) → SFits w64 (fSiteFixed (c .args .m .c) (c .args .x .vs30) (rockPGAFixed (c .args .x)))
 site-fits c = sfits-abs _ (omega (arith, site-small c))
 
 f-site-requires : tie.Need-f-site-requires
-f-site-requires c κs = (row c, c .pre .2, c .pre .5)
+f-site-requires c κs = let s = c .before in (row s, s .pre .1, s .pre .4)
 
 ln-sum-requires : tie.Need-ln-sum-requires
 ln-sum-requires c κs =
-    let s = c .before in
-    simp (c .f-site .ensures, toZ-ofZ (site-fits s)) (row s, s .pre .2, wall-is s, deep-is s, s .pre .4, site-small s)
+    let s = c .before .before in
+    simp (c .f-site .ensures, toZ-ofZ (site-fits s)) (row s, s .pre .1, s .pre .2, s .pre .3, site-small s)
 
 returns : tie.Need-returns
 unfolding lnMedianFixed lnMedianAtFixed
 returns c =
-    let s = c .before .before in
-    let z = lnMedian-size (s .args .i) (s .args .x) (s .pre .0) (s .pre .2) in
-    let n : SFits w64 (lnMedianFixed (s .args .i) (s .args .x)) = sfits _ (omega (arith, z .1)) (omega (arith, z .0)) in
+    let s = c .before .before .before in
+    let m = s .args .m in
+    let z = lnMedian-size (m .number) (s .args .x) (s .pre .0 .below) (s .pre .1) in
+    let n : SFits w64 (lnMedianFixed (m .number) (s .args .x)) = sfits _ (omega (arith, z .1)) (omega (arith, z .0)) in
     let e =
     (simp (c .before .f-site .ensures, toZ-ofZ (site-fits s)) at (c .ln-sum .ensures))
-    ∙ ap (λ (r : Coefficients). lnSum r (s .args .x) (fSiteFixed r (s .args .x .vs30) (rockPGAFixed (s .args .x)))) (s .pre .1) in
+    ∙ ap (λ (r : Coefficients). lnSum r (s .args .x) (fSiteFixed r (s .args .x .vs30) (rockPGAFixed (s .args .x)))) (c-is m (s .pre .0)) in
     simp (e, toZ-ofZ n)
 
 pub ln-median-spec : {M : Type 1} → statement M

@@ -14,23 +14,23 @@ use Rattle.exact.proofs.Signed.{sfits-abs, add-abs, abs-parts, by-sign, lt-read
 use Rattle.fixed.specs.Fixed.{E9}
 use Rattle.fixed.proofs.SignedLaws.{mulDiv-abs}
 use Rattle.tables.specs.declared.Deviations.{Deviations}
-use Rattle.model.specs.Fixed.{crossFixed, intraVarianceFixed}
+use Rattle.model.specs.Fixed.{squaredFixed, crossFixed, intraVarianceFixed}
 use Rattle.model.proofs.Fair.{Spread}
-use Rattle.sigmas.proofs.LinearSite.{rock-is, yOf, squareOf, addedOf, flat}
-use Rattle.model.proofs.OfTables.{spread-of}
+use Rattle.sigmas.proofs.LinearSite.{rock-is, yOf, addedOf, flat}
+use Rattle.model.proofs.Fair.{spread-of}
 use Rattle.model.proofs.Sizes.{y-fits}
 use Rattle.sigmas.proofs.intra_variance.Statement.{statement}
 use Rattle.sigmas.proofs.intra_variance.Tie as tie
 
 -- ---- their sizes
 record Steps (d : Deviations) (a : ℤ) : Type 0 where
-  square-low : squareOf d ≤ 490000000
+  square-low : squaredFixed (d .s) ≤ 490000000
   cross-low : crossFixed d ≤ 800000000
   y-in : SFits w64 (yOf a)
   sum-in : SFits w64 (yOf a +ℤ pos (crossFixed d))
   product : natAbs (yOf a) * natAbs (yOf a +ℤ pos (crossFixed d)) < 2 ^ 63
   added-in : SFits w64 (addedOf d a)
-  whole-in : SFits w64 (pos (squareOf d) +ℤ addedOf d a)
+  whole-in : SFits w64 (pos (squaredFixed (d .s)) +ℤ addedOf d a)
 
 steps : (d : Deviations) (a : ℤ) → Spread d → natAbs a ≤ 2671000367 → Steps d a
 steps d a f h =
@@ -38,7 +38,7 @@ steps d a f h =
     let y : natAbs (yOf a) ≤ 995000000 = y-fits a h in
     let s : natAbs (yOf a +ℤ x) ≤ 1795000000 = omega (arith, add-abs (yOf a) x, f .cross-high) in
     let p : natAbs (yOf a) * natAbs (yOf a +ℤ x) ≤ 995000000 * 1795000000 = mul-le-mul y s in
-    let q : squareOf d ≤ 490000000 = omega (arith, mul-le-mul (f .s-high) (f .s-high)) in
+    let q : squaredFixed (d .s) ≤ 490000000 = omega (arith, mul-le-mul (f .s-high) (f .s-high)) in
     let t : natAbs (addedOf d a) ≤ 1786025000 = omega (arith, mulDiv-abs (yOf a) (yOf a +ℤ x) (pos E9)) in
     record {
       square-low = q;
@@ -47,24 +47,25 @@ steps d a f h =
       sum-in = sfits-abs (yOf a +ℤ x) (omega arith);
       product = omega arith;
       added-in = sfits-abs (addedOf d a) (omega arith);
-      whole-in = sfits-abs (pos (squareOf d) +ℤ addedOf d a) (omega (arith, add-abs (pos (squareOf d)) (addedOf d a)));
+      whole-in = sfits-abs (pos (squaredFixed (d .s)) +ℤ addedOf d a) (omega (arith, add-abs (pos (squaredFixed (d .s))) (addedOf d a)));
     }
 
 here : (c : tie.Start) → Steps (c .args .d) (c .args .alpha)
 here c = steps (c .args .d) (c .args .alpha) (spread-of (c .args .d) (c .pre .0)) (c .pre .2)
 
-mul-linear : tie.Need-mul-linear
-mul-linear c = record { fits = omega (arith, here (c .before) .square-low) }
+squared-requires : tie.Need-squared-requires
+squared-requires c κs = omega (arith, spread-of (c .args .d) (c .pre .0) .s-high)
 
-mul-linear-2 : tie.Need-mul-linear-2
-mul-linear-2 c = record { fits = omega (arith, here (c .before) .square-low) }
+-- s², as it was worked out
+linear-is : (c : tie.After-squared) → c .squared .result ≡ squaredFixed (c .before .args .d .s)
+linear-is c = c .squared .ensures
 
 -- ---- alpha 0
 returns : tie.Need-returns
 returns c =
     let s = c .before .before in
     let zero : s .args .alpha ≡ pos 0 = sym (toZ-ofZ (s .fits .alpha)) ∙ ap (toZ w64) (c .if1 .taken) in
-    rw zero (flat (s .args .d))
+    rw zero (linear-is (c .before) ∙ flat (s .args .d))
 
 -- ---- and not
 mul-div-requires : tie.Need-mul-div-requires
@@ -79,7 +80,9 @@ y-is c =
     c .mul-div .ensures ∙ rw (toZ-ofZ (s .fits .alpha), rock-is)
 
 cast-more : tie.Need-cast-more
-cast-more c = record { sfits = omega (arith, here (c .before .before .before) .square-low) }
+cast-more c =
+    let l = c .before .before in
+    record { sfits = omega (arith, linear-is l, here (l .before) .square-low) }
 
 cross-le : (c : tie.Start) → c .args .cross ≤ 800000000
 cross-le c = omega (arith, c .pre .1, here c .cross-low)
@@ -115,7 +118,7 @@ added-is c =
 -- the code's sum
 abbrev moreOf : tie.After-mul-div2 → ℤ
 moreOf c =
-    toZ w64 (squareOf (c .before .before .before .before .args .d)) +ℤ toZ w64 (ofZ w64 (c .mul-div2 .result))
+    toZ w64 (c .before .before .before .squared .result) +ℤ toZ w64 (ofZ w64 (c .mul-div2 .result))
 
 more-is :
     (c : tie.After-mul-div2)
@@ -124,12 +127,12 @@ more-is :
 unfolding intraVarianceFixed
 more-is c =
     let f = here (c .before .before .before .before) in
-    rw (toZ-pos w64 (cast-more (c .before) .sfits), added-is c, toZ-ofZ (f .added-in))
+    rw (toZ-pos w64 (cast-more (c .before) .sfits), linear-is (c .before .before .before), added-is c, toZ-ofZ (f .added-in))
 
 add-more : tie.Need-add-more
 add-more c =
     let f = here (c .before .before .before .before) in
-    rw (toZ-pos w64 (cast-more (c .before) .sfits), added-is c, toZ-ofZ (f .added-in)) (f .whole-in)
+    rw (toZ-pos w64 (cast-more (c .before) .sfits), linear-is (c .before .before .before), added-is c, toZ-ofZ (f .added-in)) (f .whole-in)
 
 -- not below 0
 positive : (c : tie.Else2) → dn (moreOf (c .before)) ≡ 0
@@ -157,8 +160,7 @@ pub intra-variance-spec : {M : Type 1} → statement M
 intra-variance-spec =
     tie.close
     (tie.spec
-    mul-linear
-    mul-linear-2
+    squared-requires
     returns
     mul-div-requires
     cast-more

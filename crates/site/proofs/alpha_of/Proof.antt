@@ -17,9 +17,9 @@ use Rattle.model.specs.declared.Scenario.{Scenario}
 use Rattle.site.specs.declared.Soil.{Soil}
 use Rattle.model.specs.Accuracy.{InRange}
 use Rattle.model.specs.Fixed.{alphaFixed, rockPGAFixed}
-use Rattle.model.specs.OfTables.{OfTable2}
+use Rattle.tables.specs.OfTables.{OfTable2}
 use Rattle.site.specs.Sharing.{soilOf}
-use Rattle.model.proofs.OfTables.{fair-of}
+use Rattle.model.proofs.Fair.{fair-of}
 use Rattle.model.proofs.Sizes.{share-size}
 use Rattle.site.proofs.SoilLaws.{soil-by, soil-small}
 use Rattle.site.proofs.alpha_of.Statement.{statement}

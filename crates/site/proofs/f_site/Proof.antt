@@ -18,9 +18,9 @@ use Rattle.site.specs.declared.Soil.{Soil}
 use Rattle.model.specs.Accuracy.{InRange}
 use Rattle.model.specs.Equations.{linear}
 use Rattle.model.specs.Fixed.{fSiteFixed, rockPGAFixed}
-use Rattle.model.specs.OfTables.{OfTable2}
+use Rattle.tables.specs.OfTables.{OfTable2}
 use Rattle.site.specs.Sharing.{soilOf}
-use Rattle.model.proofs.OfTables.{fair-of}
+use Rattle.model.proofs.Fair.{fair-of}
 use Rattle.model.proofs.Sizes.{share-size}
 use Rattle.site.proofs.SoilLaws.{soft-soil, hard-soil, soil-k1, soil-small}
 use Rattle.site.proofs.f_site.Statement.{statement}

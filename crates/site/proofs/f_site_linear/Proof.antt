@@ -15,9 +15,9 @@ use Rattle.fixed.specs.Fixed.{mulDiv, lnQuotient}
 use Rattle.tables.specs.declared.Coefficients.{Coefficients}
 use Rattle.model.specs.Equations.{least, linear}
 use Rattle.model.specs.Fixed.{fSiteFixed}
-use Rattle.model.specs.OfTables.{OfTable2}
+use Rattle.tables.specs.OfTables.{OfTable2}
 use Rattle.model.proofs.Curve.{Paired, quotient-size}
-use Rattle.model.proofs.OfTables.{fair-of}
+use Rattle.model.proofs.Fair.{fair-of}
 use Rattle.model.proofs.SiteNear.{capped}
 use Rattle.model.proofs.Sizes.{share-size}
 use Rattle.site.proofs.f_site_linear.Statement.{statement}

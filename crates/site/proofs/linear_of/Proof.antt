@@ -8,8 +8,8 @@ use mir.Facts.{toZ-ofZ}
 use Rattle.exact.proofs.Signed.{sfits-abs, abs-parts, mul-abs}
 use Rattle.tables.specs.declared.Coefficients.{Coefficients}
 use Rattle.model.specs.Equations.{linear}
-use Rattle.model.specs.OfTables.{OfTable2}
-use Rattle.model.proofs.OfTables.{fair-of}
+use Rattle.tables.specs.OfTables.{OfTable2}
+use Rattle.model.proofs.Fair.{fair-of}
 use Rattle.site.proofs.linear_of.Statement.{statement}
 use Rattle.site.proofs.linear_of.Tie as tie
 

@@ -11,15 +11,15 @@ use Rattle.exact.proofs.Signed.{sfits-abs}
 use Rattle.fixed.specs.Fixed.{lnFixed, lnQuotient}
 use Rattle.tables.specs.declared.Coefficients.{Coefficients}
 use Rattle.model.specs.declared.Scenario.{Scenario}
-use Rattle.site.specs.declared.shared.Shared.{Shared}
+use Rattle.site.specs.declared.rock.Rock.{Rock}
 use Rattle.model.specs.Accuracy.{InRange}
 use Rattle.model.specs.Equations.{least}
 use Rattle.model.specs.Fixed.{curveFixed, rockPGAFixed, shareFixed, siteCFixed}
-use Rattle.model.specs.OfTables.{OfTable2}
-use Rattle.site.specs.Sharing.{sharedOf}
+use Rattle.tables.specs.OfTables.{OfTable2}
+use Rattle.site.specs.Sharing.{rockOf}
 use Rattle.model.proofs.Curve.{Paired, quotient-size, curve-low-fixed, curve-high-fixed}
 use Rattle.model.proofs.Median.{rock-is-near}
-use Rattle.model.proofs.OfTables.{fair-of}
+use Rattle.model.proofs.Fair.{fair-of}
 use Rattle.model.proofs.SiteNear.{paired, capped}
 use Rattle.model.proofs.Sizes.{log-size, logarithms-size}
 use Rattle.site.proofs.SoilLaws.{soft-soil, hard-soil, share-le, swing-le}
@@ -81,17 +81,17 @@ soft-at : (c : tie.Then1) → Soft (c .before .before .before .args .x .vs30) (c
 soft-at c = let s = c .before .before .before in soft (s .args .c) (s .args .x) (s .pre .0) (s .pre .1) (c .if1 .taken)
 
 -- what is shared, field by field
-rock-is : (c : tie.Start) → c .args .s .rock ≡ rockPGAFixed (c .args .x)
-unfolding sharedOf
-rock-is c = ap (λ (s : Shared). s .rock) (c .pre .2)
+rock-is : (c : tie.Start) → c .args .rock .pga ≡ rockPGAFixed (c .args .x)
+unfolding rockOf
+rock-is c = ap (λ (s : Rock). s .pga) (c .pre .2)
 
-log-is : (c : tie.Start) → c .args .s .log ≡ lnFixed (rockPGAFixed (c .args .x) + siteCFixed)
-unfolding sharedOf
-log-is c = ap (λ (s : Shared). s .log) (c .pre .2)
+log-is : (c : tie.Start) → c .args .rock .log ≡ lnFixed (rockPGAFixed (c .args .x) + siteCFixed)
+unfolding rockOf
+log-is c = ap (λ (s : Rock). s .log) (c .pre .2)
 
-share-is : (c : tie.Start) → c .args .s .share ≡ shareFixed (rockPGAFixed (c .args .x)) siteCFixed
-unfolding sharedOf
-share-is c = ap (λ (s : Shared). s .share) (c .pre .2)
+share-is : (c : tie.Start) → c .args .rock .share ≡ shareFixed (rockPGAFixed (c .args .x)) siteCFixed
+unfolding rockOf
+share-is c = ap (λ (s : Rock). s .share) (c .pre .2)
 
 ln-quotient-requires : tie.Need-ln-quotient-requires
 ln-quotient-requires c κs =

@@ -16,9 +16,9 @@ use Rattle.terms.specs.declared.Path.{Path}
 use Rattle.model.specs.Accuracy.{InRange}
 use Rattle.model.specs.Equations.{slope}
 use Rattle.model.specs.Fixed.{lnDistance, fDisFixed}
-use Rattle.model.specs.OfTables.{OfTable2}
+use Rattle.tables.specs.OfTables.{OfTable2}
 use Rattle.terms.specs.Paths.{pathOf}
-use Rattle.model.proofs.OfTables.{fair-of}
+use Rattle.model.proofs.Fair.{fair-of}
 use Rattle.model.proofs.Sizes.{lnDistance-size, fDis-size}
 use Rattle.model.proofs.TermsNear.{slope-size}
 use Rattle.terms.proofs.f_dis.Statement.{statement}

@@ -12,9 +12,9 @@ use Rattle.request.specs.declared.Style.the-variants.{Reverse, Normal}
 use Rattle.tables.specs.declared.Coefficients.{Coefficients}
 use Rattle.model.specs.Equations.{fFltZ}
 use Rattle.model.specs.Fixed.{fFltFixed}
-use Rattle.model.specs.OfTables.{OfTable2}
+use Rattle.tables.specs.OfTables.{OfTable2}
 use Rattle.model.proofs.Ends.{fFltZ-le}
-use Rattle.model.proofs.OfTables.{fair-of}
+use Rattle.model.proofs.Fair.{fair-of}
 use Rattle.model.proofs.Sizes.{fFlt-size}
 use Rattle.terms.proofs.f_flt.Statement.{statement}
 use Rattle.terms.proofs.f_flt.Tie as tie

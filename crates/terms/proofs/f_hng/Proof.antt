@@ -12,8 +12,8 @@ use Rattle.exact.proofs.Signed.{sfits-abs}
 use Rattle.tables.specs.declared.Coefficients.{Coefficients}
 use Rattle.model.specs.declared.Scenario.{Scenario}
 use Rattle.model.specs.Fixed.{wallFixed, fHngFixed}
-use Rattle.model.specs.OfTables.{OfTable2}
-use Rattle.model.proofs.OfTables.{fair-of}
+use Rattle.tables.specs.OfTables.{OfTable2}
+use Rattle.model.proofs.Fair.{fair-of}
 use Rattle.model.proofs.Sizes.{wall-size, fHng-size}
 use Rattle.terms.proofs.f_hng.Statement.{statement}
 use Rattle.terms.proofs.f_hng.Tie as tie

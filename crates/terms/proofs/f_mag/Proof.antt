@@ -10,10 +10,10 @@ use mir.Val.{SFits, toZ}
 use mir.Facts.{toZ-ofZ, toZ-pos}
 use Rattle.exact.proofs.Signed.{sfits-abs, add-abs, mul-abs, mul-abs-le}
 use Rattle.tables.specs.declared.Coefficients.{Coefficients}
-use Rattle.model.specs.OfTables.{OfTable2}
+use Rattle.tables.specs.OfTables.{OfTable2}
 use Rattle.model.specs.Fixed.{fMagFixed}
 use Rattle.model.specs.Equations.{byMagnitude}
-use Rattle.model.proofs.OfTables.{fair-of}
+use Rattle.model.proofs.Fair.{fair-of}
 use Rattle.model.proofs.Sizes.{fMag-size, byMagnitude-size}
 use Rattle.terms.proofs.f_mag.Statement.{statement}
 use Rattle.terms.proofs.f_mag.Tie as tie

@@ -14,8 +14,8 @@ use Rattle.exact.proofs.Signed.{sfits-abs, mul-abs-le}
 use Rattle.fixed.specs.Fixed.{mulDiv}
 use Rattle.tables.specs.declared.Coefficients.{Coefficients}
 use Rattle.model.specs.Fixed.{deepFixed, fSedFixed}
-use Rattle.model.specs.OfTables.{OfTable2}
-use Rattle.model.proofs.OfTables.{fair-of}
+use Rattle.tables.specs.OfTables.{OfTable2}
+use Rattle.model.proofs.Fair.{fair-of}
 use Rattle.model.proofs.Sizes.{deep-size, share-size, shallow-size}
 use Rattle.terms.proofs.f_sed.Statement.{statement}
 use Rattle.terms.proofs.f_sed.Tie as tie

@@ -1,7 +1,7 @@
 -- Six terms, of which the sizes add up to less than 53 · 10^9. Assumes nothing.
 use borrow.Author.Needs.{needs}
 use Prim.Native.Nat.{_≤_, _<_}
-use mathlib.Core.Path.{_≡_}
+use mathlib.Core.Path.{_≡_, ap}
 use native.Mathlib.Omega.{arith}
 use lib.IntN.{ℤ, natAbs, _+ℤ_}
 use mir.Syntax.{w64}
@@ -11,9 +11,11 @@ use Rattle.exact.proofs.Signed.{sfits-abs, add-abs}
 use Rattle.tables.specs.declared.Coefficients.{Coefficients}
 use Rattle.model.specs.declared.Scenario.{Scenario}
 use Rattle.model.specs.Accuracy.{InRange}
-use Rattle.model.specs.Fixed.{fMagFixed, fDisFixed, fFltFixed, fHngFixed, fSedFixed, lnSum}
-use Rattle.model.specs.OfTables.{OfTable2}
-use Rattle.model.proofs.OfTables.{fair-of}
+use Rattle.model.specs.Fixed.{wallFixed, deepFixed, fMagFixed, fDisFixed, fFltFixed, fHngFixed, fSedFixed, lnSum}
+use Rattle.factors.specs.declared.Factors.{Factors}
+use Rattle.factors.specs.Factoring.{factorsOf}
+use Rattle.tables.specs.OfTables.{OfTable2}
+use Rattle.model.proofs.Fair.{fair-of}
 use Rattle.model.proofs.Sizes.{fMag-size, fDis-size, fFlt-size, fHng-size, fSed-size}
 use Rattle.terms.proofs.ln_sum.Statement.{statement}
 use Rattle.terms.proofs.ln_sum.Tie as tie
@@ -64,7 +66,16 @@ steps c x site o r h =
     }
 
 at : (c : tie.Start) → Steps (c .args .c) (c .args .x) (c .args .site)
-at c = steps (c .args .c) (c .args .x) (c .args .site) (c .pre .0) (c .pre .1) (c .pre .5)
+at c = steps (c .args .c) (c .args .x) (c .args .site) (c .pre .0) (c .pre .1) (c .pre .4)
+
+-- the two factors
+wall-is : (c : tie.Start) → c .args .f .wall ≡ wallFixed (c .args .x)
+unfolding factorsOf
+wall-is c = ap (λ (f : Factors). f .wall) (c .pre .2)
+
+deep-is : (c : tie.Start) → c .args .f .deep ≡ deepFixed (c .args .x .z25)
+unfolding factorsOf
+deep-is c = ap (λ (f : Factors). f .deep) (c .pre .2)
 
 f-mag-requires : tie.Need-f-mag-requires
 f-mag-requires c κs = search needs
@@ -89,7 +100,7 @@ add-result-2 c =
     (f .s3)
 
 f-hng-requires : tie.Need-f-hng-requires
-f-hng-requires c κs = search needs
+f-hng-requires c κs = let s = c .before .before .before in (s .pre .0, wall-is s)
 
 add-result-3 : tie.Need-add-result-3
 add-result-3 c =
@@ -132,7 +143,7 @@ add-result-4 c =
     (f .s5)
 
 f-sed-requires : tie.Need-f-sed-requires
-f-sed-requires c κs = search needs
+f-sed-requires c κs = let s = c .before .before .before .before in (s .pre .0, s .pre .1 .z25-high, deep-is s)
 
 add-result-5 : tie.Need-add-result-5
 add-result-5 c =

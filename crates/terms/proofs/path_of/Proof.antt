@@ -11,9 +11,9 @@ use Rattle.model.specs.declared.Scenario.{Scenario}
 use Rattle.terms.specs.declared.Path.{Path}
 use Rattle.model.specs.Accuracy.{InRange}
 use Rattle.model.specs.Fixed.{lnDistance}
-use Rattle.model.specs.OfTables.{OfTable2}
+use Rattle.tables.specs.OfTables.{OfTable2}
 use Rattle.terms.specs.Paths.{pathOf}
-use Rattle.model.proofs.OfTables.{fair-of}
+use Rattle.model.proofs.Fair.{fair-of}
 use Rattle.model.proofs.Sizes.{lnDistance-size}
 use Rattle.terms.proofs.path_of.Statement.{statement}
 use Rattle.terms.proofs.path_of.Tie as tie

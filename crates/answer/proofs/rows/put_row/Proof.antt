@@ -7,7 +7,7 @@ use lib.ListN.{length}
 use mir.Facts.{toZ-ofZ}
 use mir.Val.{SFits}
 use mir.Syntax.{w64}
-use Rattle.model.specs.declared.Row.{Row}
+use Rattle.model.specs.declared.Shown.{Shown}
 use Rattle.text.specs.Grammar.{space}
 use Rattle.text.specs.Render.{renderSigned, Written}
 use Rattle.text.proofs.PutLaws.{shorter, room-after, then}
@@ -17,7 +17,7 @@ use Rattle.answer.proofs.rows.put_row.Statement.{statement}
 use Rattle.answer.proofs.rows.put_row.Tie as tie
 
 -- the texts that grow
-module _ (k : ℕ) (r : Row) where
+module _ (k : ℕ) (r : Shown) where
   abbrev text0 : List ℕ
   text0 = ended k space
 
@@ -31,13 +31,13 @@ module _ (k : ℕ) (r : Row) where
   text3 = text2 ++ ended (r .median) space
 
 -- each fits where the line does
-module _ (at k : ℕ) (r : Row) (n : ℕ) (h : at + length (rowLine k r) ≤ n) where
-  room4 : at + length (text3 k r ++ ended (r .total) lf) ≤ n
+module _ (at k : ℕ) (r : Shown) (n : ℕ) (h : at + length (rowLine k r) ≤ n) where
+  room4 : at + length (text3 k r ++ ended (r .sigma) lf) ≤ n
   unfolding rowLine
   room4 = h
 
   room3 : at + length (text2 k r ++ ended (r .median) space) ≤ n
-  room3 = shorter at (text3 k r) (ended (r .total) lf) room4
+  room3 = shorter at (text3 k r) (ended (r .sigma) lf) room4
 
   room2 : at + length (text1 k r ++ (space ∷ [])) ≤ n
   room2 = shorter at (text2 k r) (ended (r .median) space) room3
@@ -125,7 +125,7 @@ put-ended-requires-3 : tie.Need-put-ended-requires-3
 put-ended-requires-3 c κs =
     let w = c .before .before .before in
     let s = start3 w in
-    room-after (w3 w) (ended (s .args .row .total) lf) (room4 (s .args .at) (s .args .k) (s .args .row) (length (now (s .args .out))) (s .pre))
+    room-after (w3 w) (ended (s .args .row .sigma) lf) (room4 (s .args .at) (s .args .k) (s .args .row) (length (now (s .args .out))) (s .pre))
 
 same-length : tie.Need-same-length
 same-length c = search needs
@@ -136,7 +136,7 @@ returns c =
     let v = c .before .before in
     let w = v .before .before .before .before in
     let s = start3 w in
-    then (w3 w) (ended (s .args .row .total) lf)
+    then (w3 w) (ended (s .args .row .sigma) lf)
     (room4 (s .args .at) (s .args .k) (s .args .row) (length (now (s .args .out))) (s .pre))
     (v .put-ended3 .ensures)
 

@@ -1,0 +1,149 @@
+-- Each field by its own function, at figures that are small by the laws of `Sizes`. Assumes nothing.
+use borrow.Author.Needs.{needs}
+use Prim.Native.Nat.{ℕ, _+_, _*_, _≤_, _<_}
+use mathlib.Core.Path.{_≡_, sym, ap, _∙_}
+use native.Mathlib.Omega.{arith}
+use native.Mathlib.Nat.{mul-le-mul}
+use lib.IntN.{ℤ, natAbs}
+use mir.Syntax.{w64}
+use mir.Val.{SFits}
+use mir.Facts.{toZ-ofZ}
+use Rattle.exact.specs.Near.{up}
+use Rattle.exact.proofs.Signed.{sfits, sfits-abs}
+use Rattle.tables.specs.declared.Coefficients.{Coefficients}
+use Rattle.tables.specs.declared.Deviations.{Deviations}
+use Rattle.tables.specs.Tables.{coefficientsAt, deviationsAt}
+use Rattle.model.specs.declared.Scenario.{Scenario}
+use Rattle.model.specs.Accuracy.{InRange}
+use Rattle.model.specs.Fixed.{squaredFixed, alphaFixed, intraVarianceFixed, lnMedianFixed, rockPGAFixed, varianceFixed, fineFixed}
+use Rattle.model.proofs.Fair.{fair-at, spread-at}
+use Rattle.model.proofs.Median.{rock-is-near, lnMedian-size}
+use Rattle.model.proofs.Sizes.{alpha-size}
+use Rattle.model.proofs.Demand.{variance-size}
+use Rattle.measures.proofs.MeasureRead.{c-is, d-is, cross-is, of-table-2, of-table-3}
+use Rattle.measures.proofs.fine_from.Statement.{statement}
+use Rattle.measures.proofs.fine_from.Tie as tie
+
+-- alpha of a measure
+abbrev alphaAt : ℕ → Scenario → ℤ
+alphaAt i x = alphaFixed (coefficientsAt i) (x .vs30) (rockPGAFixed x)
+
+record Steps (i : ℕ) (x : Scenario) : Type 0 where
+  alpha-small : natAbs (alphaAt i x) ≤ 2671000367
+  alpha-fits : SFits w64 (alphaAt i x)
+  t-high : deviationsAt i .t ≤ 500
+  sC-high : deviationsAt i .sC ≤ 300
+  t2 : squaredFixed (deviationsAt i .t) ≤ 250000000
+  sC2 : squaredFixed (deviationsAt i .sC) ≤ 90000000
+  variance-high : varianceFixed i x ≤ 2000000287
+  ln-fits : SFits w64 (lnMedianFixed i x)
+
+steps : (i : ℕ) (x : Scenario) → i < 24 → InRange x → Steps i x
+steps i x h r =
+    let d = spread-at i h in
+    let a = alpha-size (coefficientsAt i) (x .vs30) _ _ (fair-at i h) (r .vs30-low) (r .vs30-high) (rock-is-near x r) in
+    let z = lnMedian-size i x h r in
+    record {
+      alpha-small = a;
+      alpha-fits = sfits-abs _ (omega (arith, a));
+      t-high = d .t-high;
+      sC-high = d .sC-high;
+      t2 = omega (arith, mul-le-mul (d .t-high) (d .t-high));
+      sC2 = omega (arith, mul-le-mul (d .sC-high) (d .sC-high));
+      variance-high = variance-size i x h r;
+      ln-fits = sfits _ (omega (arith, z .1)) (omega (arith, z .0));
+    }
+
+at : (c : tie.Start) → Steps (c .args .m .number) (c .args .x)
+at c = steps (c .args .m .number) (c .args .x) (c .pre .0 .below) (c .pre .1)
+
+ln-median-requires : tie.Need-ln-median-requires
+ln-median-requires c κs = search needs
+
+alpha-of-requires : tie.Need-alpha-of-requires
+alpha-of-requires c κs =
+    let s = c .before .before .before .before in
+    (of-table-2 (s .args .m) (s .pre .0), s .pre .1, s .pre .4)
+
+abbrev start : tie.After-alpha-of → tie.Start
+start c = c .before .before .before .before .before
+
+-- alpha, in the words of the definition of the variance
+alpha-is : (c : tie.After-alpha-of) → c .alpha-of .result ≡ alphaAt (start c .args .m .number) (start c .args .x)
+alpha-is c =
+    let s = start c in
+    c .alpha-of .ensures
+    ∙ ap (λ (r : Coefficients). alphaFixed r (s .args .x .vs30) (rockPGAFixed (s .args .x))) (c-is (s .args .m) (s .pre .0))
+
+intra-variance-requires : tie.Need-intra-variance-requires
+intra-variance-requires c κs =
+    let s = start c in
+    let f = at s in
+    simp (alpha-is c, toZ-ofZ (f .alpha-fits))
+    (of-table-3 (s .args .m) (s .pre .0), cross-is (s .args .m) (s .pre .0), f .alpha-small)
+
+-- the variance of the measure's number
+intra-is :
+    (c : tie.After-intra-variance)
+    → c .intra-variance .result ≡ varianceFixed (start (c .before) .args .m .number) (start (c .before) .args .x)
+unfolding varianceFixed
+intra-is c =
+    let a = c .before in
+    let s = start a in
+    (simp (alpha-is a, toZ-ofZ (at s .alpha-fits)) at (c .intra-variance .ensures))
+    ∙ ap (λ (d : Deviations). up (intraVarianceFixed d (alphaAt (s .args .m .number) (s .args .x)))) (d-is (s .args .m) (s .pre .0))
+
+-- the deviations of the measure's number
+t-is : (c : tie.Start) → c .args .m .d .t ≡ deviationsAt (c .args .m .number) .t
+t-is c = ap (λ (d : Deviations). d .t) (d-is (c .args .m) (c .pre .0))
+
+sC-is : (c : tie.Start) → c .args .m .d .sC ≡ deviationsAt (c .args .m .number) .sC
+sC-is c = ap (λ (d : Deviations). d .sC) (d-is (c .args .m) (c .pre .0))
+
+squared-requires : tie.Need-squared-requires
+squared-requires c κs = let s = start (c .before) in omega (arith, t-is s, at s .t-high)
+
+squared-requires-2 : tie.Need-squared-requires-2
+squared-requires-2 c κs = let s = start (c .before .before) in omega (arith, sC-is s, at s .sC-high)
+
+t2-is : (c : tie.After-squared) → c .squared .result ≡ squaredFixed (deviationsAt (start (c .before .before) .args .m .number) .t)
+t2-is c = c .squared .ensures ∙ ap squaredFixed (t-is (start (c .before .before)))
+
+sC2-is :
+    (c : tie.After-squared2) → c .squared2 .result ≡ squaredFixed (deviationsAt (start (c .before .before .before) .args .m .number) .sC)
+sC2-is c = c .squared2 .ensures ∙ ap squaredFixed (sC-is (start (c .before .before .before)))
+
+add-total : tie.Need-add-total
+add-total c =
+    let v = c .before in
+    let f = at (start (v .before)) in
+    record { fits = omega (arith, t2-is c, intra-is v, f .t2, f .variance-high) }
+
+add-arbitrary : tie.Need-add-arbitrary
+add-arbitrary c =
+    let t = c .before in
+    let v = t .before in
+    let f = at (start (v .before)) in
+    record { fits = omega (arith, sC2-is c, t2-is t, intra-is v, f .t2, f .sC2, f .variance-high) }
+
+returns : tie.Need-returns
+unfolding fineFixed
+returns c =
+    let t = c .before in
+    let v = t .before in
+    let s = start (v .before) in
+    let l = v .before .before .before .before .before in
+    simp (l .ln-median .ensures, toZ-ofZ (at s .ln-fits), intra-is v, t2-is t, sC2-is c, t-is s)
+
+pub fine-from-spec : {M : Type 1} → statement M
+fine-from-spec =
+    tie.close
+    (tie.spec
+    ln-median-requires
+    alpha-of-requires
+    intra-variance-requires
+    squared-requires
+    add-total
+    squared-requires-2
+    add-arbitrary
+    returns)

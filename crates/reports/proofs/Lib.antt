@@ -1,0 +1,2 @@
+pub mod FilledRows
+pub mod LnFits

@@ -1,0 +1,49 @@
+-- Each field by its own function; ln median lies in the exponential's range. Assumes nothing.
+use borrow.Author.Needs.{needs}
+use native.Mathlib.Omega.{arith}
+use native.Mathlib.Nat.{le-trans}
+use lib.Dec.{lit≤}
+use mir.Facts.{toZ-ofZ}
+use Rattle.model.specs.Fixed.{report, shownOf}
+use Rattle.reports.proofs.LnFits.{ln-fits, ln-abs, nearest-fits}
+use Rattle.reports.proofs.shown_of.Statement.{statement}
+use Rattle.reports.proofs.shown_of.Tie as tie
+
+round-div-requires : tie.Need-round-div-requires
+round-div-requires c κs =
+    let s = c .before in
+    let f = s .args .f in
+    simp (toZ-ofZ (ln-fits f (s .pre .0))) (omega (arith, ln-abs f (s .pre .0)), lit≤ tt, lit≤ tt)
+
+exp-fixed-requires : tie.Need-exp-fixed-requires
+exp-fixed-requires c κs =
+    let s = c .before .before .before in
+    simp (toZ-ofZ (ln-fits (s .args .f) (s .pre .0)))
+    (le-trans (s .pre .0 .ln-high) (lit≤ tt), le-trans (s .pre .0 .ln-low) (lit≤ tt))
+
+at-least-one-requires : tie.Need-at-least-one-requires
+at-least-one-requires c κs = search needs
+
+total-of-requires : tie.Need-total-of-requires
+total-of-requires c κs = search needs
+
+returns : tie.Need-returns
+unfolding report shownOf
+returns c =
+    let o = c .before in
+    let e = o .before in
+    let r = e .before .before in
+    let s = r .before .before in
+    let f = s .args .f in
+    simp (
+      r .round-div .ensures,
+      o .at-least-one .ensures,
+      e .exp-fixed .ensures,
+      c .total-of .ensures,
+      toZ-ofZ (ln-fits f (s .pre .0)),
+      toZ-ofZ (nearest-fits f (s .pre .0)),
+    )
+
+pub shown-of-spec : {M : Type 1} → statement M
+shown-of-spec =
+    tie.close (tie.spec round-div-requires exp-fixed-requires at-least-one-requires total-of-requires returns)

@@ -1,0 +1,140 @@
+// Fine rows rounded for the report: a row with all its figures, or what a sheet shows of it. Each function
+// equals a definition of model's specs/Fixed.
+use measures::fine_at;
+use measures::fine_rows_of;
+use model::Fine;
+use model::Row;
+use model::Scenario;
+use model::Shown;
+use reckon::exp_fixed;
+use reckon::round_div;
+use sigmas::Settled;
+use sigmas::all_settled;
+use sigmas::arbitrary_of;
+use sigmas::intra_of;
+use sigmas::total_of;
+use tables::Deviations;
+use tables::MEASURES;
+use tables::all_deviations;
+ghost use mathlib.Core.Path.{_≡_};
+ghost use Prim.Native.Nat.{ℕ, _<_};
+ghost use lib.ListN.{length, getD};
+ghost use Rattle.tables.specs.Tables.{measures};
+ghost use Rattle.tables.specs.OfTables.{OfTable3};
+ghost use Rattle.model.specs.Accuracy.{InRange, FineInRange};
+ghost use Rattle.model.specs.Equations.{most};
+ghost use Rattle.model.specs.Fixed.{report, shownOf, rowFixed, noFine, noRow, noShown};
+ghost use Rattle.sigmas.specs.Settling.{settledOf};
+
+// A median, at least 1.
+fn at_least_one(y: u64) -> u64
+    ensures { λ r. ⌜ r ≡ most 1 y ⌝ }
+{
+    if 1 < y { y } else { 1 }
+}
+
+// A fine row with all its figures. What is known of a row of Table 3 only spares roots.
+pub fn report_of(f: Fine, d: Deviations, known: Settled) -> Row
+    requires { ⌜ FineInRange f × OfTable3 d × (known ≡ settledOf d) ⌝ }
+    ensures { λ r. ⌜ r ≡ report f ⌝ }
+{
+    Row {
+        ln: round_div(f.ln, 1_000),
+        median: at_least_one(exp_fixed(f.ln)),
+        intra: intra_of(d, f.intra),
+        inter: f.t * 1_000,
+        total: total_of(d, known, f.total),
+        arbitrary: arbitrary_of(d, known, f.arbitrary),
+    }
+}
+
+// What a sheet shows of it, with one root.
+pub fn shown_of(f: Fine, d: Deviations, known: Settled) -> Shown
+    requires { ⌜ FineInRange f × OfTable3 d × (known ≡ settledOf d) ⌝ }
+    ensures { λ r. ⌜ r ≡ shownOf (report f) ⌝ }
+{
+    Shown {
+        ln: round_div(f.ln, 1_000),
+        median: at_least_one(exp_fixed(f.ln)),
+        sigma: total_of(d, known, f.total),
+    }
+}
+
+// What a sheet shows of one measure.
+pub fn shown_at(i: usize, x: Scenario) -> Shown
+    requires { ⌜ (i < measures) × InRange x ⌝ }
+    ensures { λ r. ⌜ r ≡ shownOf (rowFixed i x) ⌝ }
+{
+    let table3 = all_deviations();
+    let settled = all_settled();
+    let d = table3[i];
+    let known = settled[i];
+    shown_of(fine_at(i, x), d, known)
+}
+
+// All rows, each with all its figures.
+fn reports_of(fine: [Fine; 24]) -> [Row; 24]
+    requires { ⌜ ((k : ℕ) → k < measures → FineInRange (getD fine k noFine)) ⌝ }
+    ensures { λ r. ⌜ (length r ≡ measures) × ((k : ℕ) → k < measures → getD r k noRow ≡ report (getD fine k noFine)) ⌝ }
+{
+    let none = Row {
+        ln: 0,
+        median: 0,
+        intra: 0,
+        inter: 0,
+        total: 0,
+        arbitrary: 0,
+    };
+    let mut rows = [none; 24];
+    let table3 = all_deviations();
+    let settled = all_settled();
+    let mut k = 0usize;
+    while k < MEASURES {
+        let f = fine[k];
+        let d = table3[k];
+        let known = settled[k];
+        rows[k] = report_of(f, d, known);
+        k += 1;
+    }
+    rows
+}
+
+// What a sheet shows of all rows.
+fn all_shown_of(fine: [Fine; 24]) -> [Shown; 24]
+    requires { ⌜ ((k : ℕ) → k < measures → FineInRange (getD fine k noFine)) ⌝ }
+    ensures { λ r. ⌜ (length r ≡ measures) × ((k : ℕ) → k < measures → getD r k noShown ≡ shownOf (report (getD fine k noFine))) ⌝ }
+{
+    let none = Shown {
+        ln: 0,
+        median: 0,
+        sigma: 0,
+    };
+    let mut rows = [none; 24];
+    let table3 = all_deviations();
+    let settled = all_settled();
+    let mut i = 0usize;
+    while i < MEASURES {
+        let row = fine[i];
+        let d = table3[i];
+        let known = settled[i];
+        rows[i] = shown_of(row, d, known);
+        i += 1;
+    }
+    rows
+}
+
+// The rows of all measures of a request.
+pub fn rows_of(x: Scenario) -> [Row; 24]
+    requires { ⌜ InRange x ⌝ }
+    ensures { λ r. ⌜ (length r ≡ measures) × ((k : ℕ) → k < measures → getD r k noRow ≡ rowFixed k x) ⌝ }
+{
+    reports_of(fine_rows_of(x))
+}
+
+// What a sheet shows of them.
+pub fn shown_rows_of(x: Scenario) -> [Shown; 24]
+    requires { ⌜ InRange x ⌝ }
+    ensures { λ r. ⌜ (length r ≡ measures) × ((k : ℕ) → k < measures → getD r k noShown ≡ shownOf (rowFixed k x)) ⌝ }
+{
+    all_shown_of(fine_rows_of(x))
+}

@@ -1,0 +1,31 @@
+-- The root of s² is s. Assumes nothing.
+use Prim.Native.Nat.{_≤_, _*_}
+use mathlib.Core.Path.{_≡_, sym, ap, _∙_}
+use native.Mathlib.Omega.{arith}
+use borrow.Author.Needs.{needs}
+use Rattle.model.specs.Fixed.{sigmaOf}
+use Rattle.model.proofs.Fair.{spread-of}
+use Rattle.sigmas.proofs.LinearSite.{whole-sigma}
+use Rattle.sigmas.proofs.intra_of.Statement.{statement}
+use Rattle.sigmas.proofs.intra_of.Tie as tie
+
+s-high : (c : tie.Start) → c .args .d .s ≤ 700
+s-high c = spread-of (c .args .d) (c .pre .0) .s-high
+
+squared-requires : tie.Need-squared-requires
+squared-requires c κs = omega (arith, s-high c)
+
+mul-sigma-or : tie.Need-mul-sigma-or
+mul-sigma-or c = record { fits = omega (arith, s-high (c .before .before)) }
+
+sigma-or-requires : tie.Need-sigma-or-requires
+sigma-or-requires c κs =
+    let v = c .before in
+    let s = v .before in
+    (sym (whole-sigma (s .args .d .s)) ∙ ap sigmaOf (sym (v .squared .ensures)), s .pre .1)
+
+returns : tie.Need-returns
+returns c = search needs
+
+pub intra-of-spec : {M : Type 1} → statement M
+intra-of-spec = tie.close (tie.spec squared-requires mul-sigma-or sigma-or-requires returns)
