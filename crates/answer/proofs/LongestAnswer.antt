@@ -1,5 +1,5 @@
 -- No answer line is longer than 38 bytes, its LF counted: an accepted request's figures lie in their ranges, its rows' too, and no
--- refusal's number is above 14. Assumes nothing.
+-- refusal of a line has more than two digits. Assumes nothing.
 use Prim.Native.Nat.{ℕ, zero, suc, _*_, _≤_, _<_}
 use mathlib.Core.Path.{_≡_, refl, ap}
 use mathlib.Core.Bool.{Bool, true, false, _&&_}
@@ -9,12 +9,14 @@ use lib.Dec.{T, leb, eqb, leb→le}
 use lib.Ieee.Fits.{and-l, and-r}
 use lib.ListN.{length, getD, length-append}
 use borrow.Author.Tests.{eqb-true, eqb-false}
+use Rattle.refusals.specs.Order as No
 use Rattle.request.specs.declared.Request.{Request}
 use Rattle.completion.specs.Refusals.{Rows, first, sourceGiven, sourceRows, pathGiven, pathRows, siteGiven, siteRows, rows, refusal}
 use Rattle.completion.specs.Answers.{completed, answer, completionOf}
 use Rattle.completion.proofs.ExactlyWhen.{stages, number-is}
 use Rattle.completion.proofs.Ranges.{source-range, source-given, top-range}
 use Rattle.completion.proofs.SentBackWhole.{rrup-high, site-rows}
+use Rattle.tables.specs.Tables.{measures}
 use Rattle.model.specs.declared.Row.{Row}
 use Rattle.model.specs.Fixed.{noRow}
 use Rattle.prediction.specs.Spectra.{Small, spectrumOf}
@@ -22,7 +24,7 @@ use Rattle.prediction.proofs.DemandThree.{rows-small, number-handed-on}
 use Rattle.text.specs.declared.read.Line.{Line}
 use Rattle.text.specs.declared.read.Line.the-variants as L
 use Rattle.text.specs.Grammar.{lineOf}
-use Rattle.text.proofs.RenderLaws.{length-render, length-signed}
+use Rattle.numerals.proofs.RenderLaws.{length-render, length-signed}
 use Rattle.lines.specs.Lines.{okLine, noLine, completionLine}
 use Rattle.lines.proofs.LineLaws.{length-ok, length-no}
 use Rattle.answer.specs.declared.Sheet.{Sheet}
@@ -52,7 +54,7 @@ refusal-small r = first-small (rows r) tt
 abbrev most : ℕ
 most = longestAnswer S.Completion
 
-no-short : (n : ℕ) → n ≤ 14 → length (noLine n) ≤ most
+no-short : (n : ℕ) → n ≤ No.malformed → length (noLine n) ≤ most
 no-short n h = omega (arith, length-no n, length-render 1 n (omega arith))
 
 ok-short : (r : Request) → refusal r ≡ 0 → length (okLine (completed r)) ≤ most
@@ -78,7 +80,7 @@ completion-short r = go (refusal r) refl
     go zero e = ok-short r e
     go (suc n) e = no-short (suc n) (omega (arith, refusal-small r))
 
-row-short : (k : ℕ) (row : Row) → k < 24 → Small row → length (rowLine k row) ≤ most
+row-short : (k : ℕ) (row : Row) → k < measures → Small row → length (rowLine k row) ≤ most
 row-short k row h b =
     omega (
       arith,
@@ -89,7 +91,7 @@ row-short k row h b =
       length-render 6 (row .total) (omega (arith, b .total)),
     )
 
-rows-short : (rows : List Row) → ((k : ℕ) → k < 24 → Small (getD rows k noRow)) → (n : ℕ) → n ≤ 24 → length (rowLines n rows) ≤ n * most
+rows-short : (rows : List Row) → ((k : ℕ) → k < measures → Small (getD rows k noRow)) → (n : ℕ) → n ≤ measures → length (rowLines n rows) ≤ n * most
 unfolding rowLines
 rows-short rows b zero h = omega arith
 rows-short rows b (suc n) h =
@@ -108,7 +110,7 @@ spectrum-short r = go (eqb (spectrumOf r .refusal) 0) refl
         omega (
           arith,
           ap length (good-lines (spectrumOf r) (eqb-true (spectrumOf r .refusal) 0 e)),
-          rows-short (spectrumOf r .rows) (rows-small r) 24 (omega arith),
+          rows-short (spectrumOf r .rows) (rows-small r) measures (omega arith),
         )
     go false e =
         omega (
@@ -121,9 +123,9 @@ spectrum-short r = go (eqb (spectrumOf r .refusal) 0) refl
 reply-short : (sheet : Sheet) (l : Line) → length (replyOf sheet l) ≤ longestAnswer sheet
 unfolding replyOf sheetOf
 reply-short S.Completion (L.Is r) = completion-short r
-reply-short S.Completion L.Malformed = no-short 14 (omega arith)
+reply-short S.Completion L.Malformed = no-short No.malformed (omega arith)
 reply-short S.Prediction (L.Is r) = spectrum-short r
-reply-short S.Prediction L.Malformed = omega (arith, no-short 14 (omega arith))
+reply-short S.Prediction L.Malformed = omega (arith, no-short No.malformed (omega arith))
 
 pub answer-short : (sheet : Sheet) (s : List ℕ) → length (answerTo sheet s) ≤ longestAnswer sheet
 unfolding answerTo

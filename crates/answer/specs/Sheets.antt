@@ -6,7 +6,7 @@ use Rattle.completion.specs.Answers.{completionOf}
 use Rattle.prediction.specs.Spectra.{spectrumOf}
 use Rattle.text.specs.declared.read.Line.{Line}
 use Rattle.text.specs.declared.read.Line.the-variants as L
-use Rattle.text.specs.Grammar.{lineOf}
+use Rattle.text.specs.Grammar.{lineOf, numberOf}
 use Rattle.lines.specs.Lines.{noLine, completionLine}
 use Rattle.answer.specs.declared.Sheet.{Sheet}
 use Rattle.answer.specs.declared.Sheet.the-variants as S
@@ -18,11 +18,11 @@ unfolding completionLine completionOf spectrumLines
 sheetOf S.Completion r = completionLine (completionOf r)
 sheetOf S.Prediction r = spectrumLines (spectrumOf r)
 
--- refusal 14 for a malformed line
+-- a malformed line is refused
 unfoldable pub replyOf : Sheet → Line → List ℕ
 unfolding sheetOf noLine
 replyOf sheet (L.Is r) = sheetOf sheet r
-replyOf sheet L.Malformed = noLine 14
+replyOf sheet L.Malformed = noLine (numberOf L.Malformed)
 
 -- from the bytes of a line, its LF not among them, to the bytes of its answer
 unfoldable pub answerTo : Sheet → List ℕ → List ℕ

@@ -6,6 +6,7 @@ use native.Mathlib.Omega.{arith}
 use lib.Dec.{ltb}
 use lib.Ieee.{Float}
 use borrow.Author.Tests.{ltb-true, ltb-false}
+use Rattle.refusals.specs.Order as No
 use Rattle.request.specs.declared.Request.{Request}
 use Rattle.completion.specs.declared.Completed.{Completed}
 use Rattle.completion.specs.declared.Completion.the-variants as C
@@ -60,7 +61,7 @@ request-not-0 : (r : Request) (k : ℕ) → measureOf r k ≡ M.Refused 0 → �
 request-not-0 r k h = by-completion r done refused
   where
     by-number : (c : Completed) → completionOf r ≡ C.Done c → (t : Bool) → ltb 23 k ≡ t → ⊥
-    by-number c e true u = omega (arith, same-number 15 0 (sym (measure-none r c k e (ltb-true 23 k u)) ∙ h))
+    by-number c e true u = omega (arith, same-number No.noMeasure 0 (sym (measure-none r c k e (ltb-true 23 k u)) ∙ h))
     by-number c e false u = no-value (rowFixed k (scenarioOf c)) 0 (sym (measure-fixed r c k e (ltb-false 23 k u)) ∙ h)
 
     done : (c : Completed) → completionOf r ≡ C.Done c → ⊥
@@ -72,4 +73,4 @@ request-not-0 r k h = by-completion r done refused
 pub not-0 : (l : Line) (k : ℕ) → measureAnswer l k ≡ M.Refused 0 → ⊥
 unfolding measureAnswer
 not-0 (L.Is r) k h = request-not-0 r k h
-not-0 L.Malformed k h = omega (arith, same-number 14 0 h)
+not-0 L.Malformed k h = omega (arith, same-number No.malformed 0 h)

@@ -21,12 +21,12 @@ pub record Written {A : Type 0} (b : List A) (p : ℕ) (s : List A) (r : ℕ) (b
 
 -- ---- what a writer answers
 -- the refusal's number, 0 for none
-unfoldable pub numberOf : Wrote → ℕ
+abbrev pub numberOf : Wrote → ℕ
 numberOf (W.To n) = 0
 numberOf (W.Refused n) = n
 
 -- how much was written: nothing on a refusal
-unfoldable pub countOf : Wrote → ℕ
+abbrev pub countOf : Wrote → ℕ
 countOf (W.To n) = n
 countOf (W.Refused n) = 0
 

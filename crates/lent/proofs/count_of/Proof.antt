@@ -1,6 +1,5 @@
 -- By the cases of the answer. Assumes nothing.
 use borrow.Author.Needs.{needs}
-use Rattle.lent.specs.Lent.{countOf}
 use Rattle.lent.proofs.count_of.Statement.{statement}
 use Rattle.lent.proofs.count_of.Tie as tie
 
@@ -11,11 +10,9 @@ enum-told : tie.Need-enum-told
 enum-told c = search needs
 
 returns : tie.Need-returns
-unfolding countOf
 returns c = rw (c .before .w .given .1)
 
 returns-2 : tie.Need-returns-2
-unfolding countOf
 returns-2 c = rw (c .enum-told .given .1)
 
 pub count-of-spec : {M : Type 1} → statement M

@@ -11,7 +11,8 @@ use mir.Syntax.{w64}
 use mir.Val.{SFits}
 use mir.Facts.{toZ-ofZ}
 use Rattle.request.proofs.Tests.{and-no}
-use Rattle.text.specs.Grammar.{minus, given, fieldOf}
+use Rattle.numerals.specs.Render.{minus}
+use Rattle.text.specs.Grammar.{asWord, fieldOf}
 use Rattle.text.proofs.figures.read_field.Statement.{statement}
 use Rattle.text.proofs.figures.read_field.Tie as tie
 
@@ -44,7 +45,7 @@ not-blank c =
 
 figure : (c : tie.After-read-figure) →
     let a = c .before .before .before .args in
-    fieldOf (a .signed) (now (a .s)) ≡ given (c .read-figure .result)
+    fieldOf (a .signed) (now (a .s)) ≡ asWord (c .read-figure .result)
 unfolding fieldOf
 figure c = rw (not-blank (c .before), c .read-figure .ensures)
 
@@ -52,12 +53,12 @@ v-fits : (c : tie.After-known-told) → SFits w64 (c .before .v .given .0 .0)
 v-fits c = record { sfits = c .known-told .given .0 .1 }
 
 returns-2 : tie.Need-returns-2
-unfolding given
-returns-2 c = simp (toZ-ofZ (v-fits c)) (sym (figure (c .before .before .before) ∙ ap given (c .before .v .given .1)))
+unfolding asWord
+returns-2 c = simp (toZ-ofZ (v-fits c)) (sym (figure (c .before .before .before) ∙ ap asWord (c .before .v .given .1)))
 
 returns-3 : tie.Need-returns-3
-unfolding given
-returns-3 c = sym (figure (c .before .before) ∙ ap given (c .enum-told .given .1))
+unfolding asWord
+returns-3 c = sym (figure (c .before .before) ∙ ap asWord (c .enum-told .given .1))
 
 pub read-field-spec : {M : Type 1} → statement M
 read-field-spec =

@@ -7,10 +7,11 @@ use denote.Ref.{now}
 use lib.IntN.{pos, negℤ, +ℤ-idl}
 use lib.ListN.{drop}
 use mir.Facts.{toZ-ofZ}
+use Rattle.lent.proofs.PartLaws.{rest}
 use Rattle.text.specs.declared.figures.Number.the-variants as N
-use Rattle.text.specs.Grammar.{numberOf, plain, negative, figureOf}
+use Rattle.text.specs.Grammar.{unsignedOf, plain, negative, figureOf}
 use Rattle.text.proofs.NumberLaws.{number-lt}
-use Rattle.text.proofs.FigureLaws.{rest, no-bytes, minus-barred, minus-taken, no-minus, negative-is, plain-fits, negative-fits}
+use Rattle.text.proofs.FigureLaws.{no-bytes, minus-barred, minus-taken, no-minus, negative-is, plain-fits, negative-fits}
 use Rattle.text.proofs.figures.read_figure.Statement.{statement}
 use Rattle.text.proofs.figures.read_figure.Tie as tie
 
@@ -46,8 +47,8 @@ enum-told : tie.Need-enum-told
 enum-told c = search needs
 
 -- ---- after a minus sign
-behind : (c : tie.After-read-number) → c .read-number .result ≡ numberOf (drop 1 (now (c .before .before .before .before .before .before .before .args .s)))
-behind c = c .read-number .ensures ∙ ap numberOf (rest (now (c .before .before .before .before .before .before .before .args .s)) 1)
+behind : (c : tie.After-read-number) → c .read-number .result ≡ unsignedOf (drop 1 (now (c .before .before .before .before .before .before .before .args .s)))
+behind c = c .read-number .ensures ∙ ap unsignedOf (rest (now (c .before .before .before .before .before .before .before .args .s)) 1)
 
 negated : (c : tie.After-read-number) →
     let a = c .before .before .before .before .before .before .before .args in

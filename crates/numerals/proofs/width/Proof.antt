@@ -6,11 +6,10 @@ use lib.IntN.{pos, natAbs}
 use lib.ListN.{length}
 use mir.Facts.{toZ-ofZ}
 use Rattle.exact.proofs.Signed.{lt-read, lit-fits}
-use Rattle.request.specs.Fields.{valueOf, sizeOf}
-use Rattle.text.specs.Render.{render}
-use Rattle.text.proofs.RenderLaws.{below-zero, not-below-zero}
-use Rattle.text.proofs.write.width.Statement.{statement}
-use Rattle.text.proofs.write.width.Tie as tie
+use Rattle.numerals.specs.Render.{render}
+use Rattle.numerals.proofs.RenderLaws.{below-zero, not-below-zero}
+use Rattle.numerals.proofs.width.Statement.{statement}
+use Rattle.numerals.proofs.width.Tie as tie
 
 size-of-requires : tie.Need-size-of-requires
 size-of-requires c κs = search needs
@@ -23,7 +22,6 @@ add-result c = search needs
 
 -- as many as the size has
 count : (c : tie.After-digits) → c .digits .result ≡ length (render (natAbs (c .before .before .args .z)))
-unfolding sizeOf valueOf
 count c = c .digits .ensures .0 ∙ ap (λ n. length (render n)) (simp (toZ-ofZ (c .before .before .fits .z)) at (c .before .size-of .ensures))
 
 returns : tie.Need-returns

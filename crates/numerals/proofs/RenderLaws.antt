@@ -11,8 +11,7 @@ use lib.IntN.{ℤ, pos, negsuc, natAbs}
 use lib.ListN.{length, length-append}
 use lib.Signed.{ltZ}
 use Rattle.exact.proofs.Signed.{lt-parts, nlt-parts}
-use Rattle.text.specs.Grammar.{minus, digit0}
-use Rattle.text.specs.Render.{digitsIn, render, renderSigned}
+use Rattle.numerals.specs.Render.{minus, digit0, digitsIn, render, renderSigned, ended}
 
 -- more divisions than enough change nothing
 enough : (f g n : ℕ) → n ≤ f → n ≤ g → digitsIn f n ≡ digitsIn g n
@@ -78,3 +77,8 @@ pub length-signed : (k : ℕ) (z : ℤ) → natAbs z < 10 ^ suc k → length (re
 unfolding renderSigned
 length-signed k (pos n) h = omega (arith, length-render k n h)
 length-signed k (negsuc n) h = omega (arith, length-render k (suc n) h)
+
+-- ---- with the byte that ends it
+pub length-ended : (n end : ℕ) → length (ended n end) ≡ length (render n) + 1
+unfolding ended
+length-ended n end = length-append (render n) (end ∷ [])

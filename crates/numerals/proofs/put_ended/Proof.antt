@@ -1,11 +1,10 @@
 -- The number is put, and then the byte. Assumes nothing.
 use borrow.Author.Needs.{needs}
 use mathlib.Core.List.{[], _∷_}
-use Rattle.text.specs.Render.{render}
-use Rattle.text.proofs.PutLaws.{shorter, room-after, then}
-use Rattle.lines.specs.Lines.{ended}
-use Rattle.lines.proofs.write.put_ended.Statement.{statement}
-use Rattle.lines.proofs.write.put_ended.Tie as tie
+use Rattle.numerals.specs.Render.{render, ended}
+use Rattle.lent.proofs.PutLaws.{shorter, room-after, then}
+use Rattle.numerals.proofs.put_ended.Statement.{statement}
+use Rattle.numerals.proofs.put_ended.Tie as tie
 
 put-number-requires : tie.Need-put-number-requires
 unfolding ended

@@ -7,16 +7,15 @@ use borrow.Fn.Kinds.{In}
 use borrow.Fn.PlainCycle.{Measures, is, falls, and}
 use denote.Ref.{now}
 use lib.ListN.{length}
-use Rattle.text.specs.Grammar.{digit0}
-use Rattle.text.specs.Render.{render}
-use Rattle.text.proofs.RenderLaws.{render-one, render-more, length-one, length-more}
-use Rattle.text.proofs.PutLaws.{room-after, then}
-use Rattle.text.proofs.write.put_byte.Reads as byte
-use Rattle.text.proofs.write.put_number.Reads as reads
-use Rattle.text.proofs.write.put_number.Kinds as kinds
-use Rattle.text.proofs.write.+put_number.Lts-put_number as lts
-use Rattle.text.proofs.write.+put_number.{statement}
-use Rattle.text.proofs.write.+put_number.Tie.{close}
+use Rattle.numerals.specs.Render.{digit0, render}
+use Rattle.numerals.proofs.RenderLaws.{render-one, render-more, length-one, length-more}
+use Rattle.lent.proofs.PutLaws.{room-after, then}
+use Rattle.lent.proofs.put_byte.Reads as byte
+use Rattle.numerals.proofs.put_number.Reads as reads
+use Rattle.numerals.proofs.put_number.Kinds as kinds
+use Rattle.numerals.proofs.+put_number.Lts-put_number as lts
+use Rattle.numerals.proofs.+put_number.{statement}
+use Rattle.numerals.proofs.+put_number.Tie.{close}
 
 abbrev μ : Measures 1 kinds.ps ℕ
 μ κs a = a .1 .1 .0

@@ -3,12 +3,12 @@ use Prim.Native.Nat.{ℕ, _<_}
 use native.Mathlib.Omega.{arith}
 use borrow.Fn.Kinds.{In}
 use borrow.Fn.PlainCycle.{Measures, is, falls, and}
-use Rattle.text.proofs.RenderLaws.{length-one, length-more, length-render}
-use Rattle.text.proofs.write.digits.Reads as reads
-use Rattle.text.proofs.write.digits.Kinds as kinds
-use Rattle.text.proofs.write.+digits.Lts-digits as lts
-use Rattle.text.proofs.write.+digits.{statement}
-use Rattle.text.proofs.write.+digits.Tie.{close}
+use Rattle.numerals.proofs.RenderLaws.{length-one, length-more, length-render}
+use Rattle.numerals.proofs.digits.Reads as reads
+use Rattle.numerals.proofs.digits.Kinds as kinds
+use Rattle.numerals.proofs.+digits.Lts-digits as lts
+use Rattle.numerals.proofs.+digits.{statement}
+use Rattle.numerals.proofs.+digits.Tie.{close}
 
 abbrev μ : Measures 0 kinds.ps ℕ
 μ κs a = a .0

@@ -9,20 +9,17 @@ use lib.IntN.{pos, natAbs}
 use lib.ListN.{length}
 use mir.Facts.{toZ-ofZ}
 use Rattle.exact.proofs.Signed.{lt-read, lit-fits}
-use Rattle.request.specs.Fields.{valueOf, sizeOf}
-use Rattle.text.specs.Grammar.{minus}
-use Rattle.text.specs.Render.{render, renderSigned}
-use Rattle.text.proofs.RenderLaws.{below-zero, not-below-zero}
-use Rattle.text.proofs.PutLaws.{room-after, then}
-use Rattle.text.proofs.write.put_signed.Statement.{statement}
-use Rattle.text.proofs.write.put_signed.Tie as tie
+use Rattle.numerals.specs.Render.{minus, render, renderSigned}
+use Rattle.numerals.proofs.RenderLaws.{below-zero, not-below-zero}
+use Rattle.lent.proofs.PutLaws.{room-after, then}
+use Rattle.numerals.proofs.put_signed.Statement.{statement}
+use Rattle.numerals.proofs.put_signed.Tie as tie
 
 size-of-requires : tie.Need-size-of-requires
 size-of-requires c κs = search needs
 
 -- the text by the sign
 size : (c : tie.After-size-of) → c .size-of .result ≡ natAbs (c .before .before .args .z)
-unfolding sizeOf valueOf
 size c = simp (toZ-ofZ (c .before .before .fits .z)) at (c .size-of .ensures)
 
 low : (c : tie.Then1) → renderSigned (c .before .before .before .args .z) ≡ (minus ∷ []) ++ render (c .before .size-of .result)
