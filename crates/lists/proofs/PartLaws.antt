@@ -171,4 +171,4 @@ same-taken p q e = cc
 
 pub part-taken-one : {sheet : Sheet} {r : Reader} {part b : List ℕ} {t u : Taken} {b₁ b₂ : List ℕ} → PartTaken sheet r part b t b₁ → PartTaken sheet r part b u b₂ → (t ≡ u) × (b₁ ≡ b₂)
 part-taken-one v w =
-    (same-taken (v .reader ∙ sym (w .reader)) (omega (arith, v .took, w .took)) (v .wrote ∙ sym (w .wrote)), v .bytes ∙ sym (w .became))
+    (same-taken (v .reader ∙ sym (w .reader)) (omega (arith, v .took, w .took)) (v .wrote ∙ sym (w .wrote)), v .bytes ∙ sym (w .bytes))
