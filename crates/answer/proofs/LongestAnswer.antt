@@ -30,34 +30,30 @@ use Rattle.lines.proofs.LineLaws.{length-ok, length-no}
 use Rattle.answer.specs.declared.Sheet.{Sheet}
 use Rattle.answer.specs.declared.Sheet.the-variants as S
 use Rattle.answer.specs.RowLines.{rowLine, rowLines, spectrumLines}
-use Rattle.answer.specs.Sheets.{sheetOf, replyOf, answerTo, longestAnswer}
+use Rattle.answer.specs.Sheets.{sheetOf, replyOf, answerTo, longestLine, longestAnswer}
 use Rattle.answer.proofs.RowLaws.{length-row, refused-line, good-lines}
 
 -- ---- the numbers of refusals
--- no row has a number above 13
+-- no row has a number of more than two digits
 abbrev small : Rows → Bool
 small [] = true
-small (row ∷ rest) = leb (row .0) 13 && small rest
+small (row ∷ rest) = leb (row .0) 99 && small rest
 
-first-small : (a : Rows) → T (small a) → first a ≤ 13
+first-small : (a : Rows) → T (small a) → first a ≤ 99
 unfolding first
 first-small [] t = omega arith
-first-small ((n, true) ∷ rest) t = leb→le n 13 (and-l (leb n 13) (small rest) t)
-first-small ((n, false) ∷ rest) t = first-small rest (and-r (leb n 13) (small rest) t)
+first-small ((n, true) ∷ rest) t = leb→le n 99 (and-l (leb n 99) (small rest) t)
+first-small ((n, false) ∷ rest) t = first-small rest (and-r (leb n 99) (small rest) t)
 
-refusal-small : (r : Request) → refusal r ≤ 13
+refusal-small : (r : Request) → refusal r ≤ 99
 unfolding refusal rows sourceRows sourceGiven pathRows pathGiven siteRows siteGiven
 refusal-small r = first-small (rows r) tt
 
 -- ---- the lines
--- the most bytes of a line
-abbrev most : ℕ
-most = longestAnswer S.Completion
-
-no-short : (n : ℕ) → n ≤ No.malformed → length (noLine n) ≤ most
+no-short : (n : ℕ) → n ≤ 99 → length (noLine n) ≤ longestLine
 no-short n h = omega (arith, length-no n, length-render 1 n (omega arith))
 
-ok-short : (r : Request) → refusal r ≡ 0 → length (okLine (completed r)) ≤ most
+ok-short : (r : Request) → refusal r ≡ 0 → length (okLine (completed r)) ≤ longestLine
 unfolding completed
 ok-short r e =
     let s = stages r e in
@@ -72,15 +68,15 @@ ok-short r e =
       length-render 4 (completed r .z25 .value) (omega (arith, site-rows r e .2)),
     )
 
-completion-short : (r : Request) → length (completionLine (completionOf r)) ≤ most
+completion-short : (r : Request) → length (completionLine (completionOf r)) ≤ longestLine
 unfolding completionLine completionOf answer
 completion-short r = go (refusal r) refl
   where
-    go : (n : ℕ) → refusal r ≡ n → length (completionLine (answer n r)) ≤ most
+    go : (n : ℕ) → refusal r ≡ n → length (completionLine (answer n r)) ≤ longestLine
     go zero e = ok-short r e
     go (suc n) e = no-short (suc n) (omega (arith, refusal-small r))
 
-row-short : (k : ℕ) (row : Row) → k < measures → Small row → length (rowLine k row) ≤ most
+row-short : (k : ℕ) (row : Row) → k < measures → Small row → length (rowLine k row) ≤ longestLine
 row-short k row h b =
     omega (
       arith,
@@ -91,7 +87,7 @@ row-short k row h b =
       length-render 6 (row .total) (omega (arith, b .total)),
     )
 
-rows-short : (rows : List Row) → ((k : ℕ) → k < measures → Small (getD rows k noRow)) → (n : ℕ) → n ≤ measures → length (rowLines n rows) ≤ n * most
+rows-short : (rows : List Row) → ((k : ℕ) → k < measures → Small (getD rows k noRow)) → (n : ℕ) → n ≤ measures → length (rowLines n rows) ≤ n * longestLine
 unfolding rowLines
 rows-short rows b zero h = omega arith
 rows-short rows b (suc n) h =

@@ -1,8 +1,9 @@
 -- From a line to its answer, by the sheet that is asked for. Definitions only.
-use Prim.Native.Nat.{ℕ}
+use Prim.Native.Nat.{ℕ, _*_}
 use mathlib.Core.List.{List}
 use Rattle.request.specs.declared.Request.{Request}
 use Rattle.completion.specs.Answers.{completionOf}
+use Rattle.tables.specs.Tables.{measures}
 use Rattle.prediction.specs.Spectra.{spectrumOf}
 use Rattle.text.specs.declared.read.Line.{Line}
 use Rattle.text.specs.declared.read.Line.the-variants as L
@@ -29,7 +30,11 @@ unfoldable pub answerTo : Sheet → List ℕ → List ℕ
 unfolding replyOf lineOf
 answerTo sheet s = replyOf sheet (lineOf s)
 
--- no answer to a line is longer, its LFs counted: a line of 38 bytes at most, or 24 of them
+-- no line of an answer is longer, its LF counted
+abbrev pub longestLine : ℕ
+longestLine = 38
+
+-- and so no answer
 abbrev pub longestAnswer : Sheet → ℕ
-longestAnswer S.Completion = 38
-longestAnswer S.Prediction = 912
+longestAnswer S.Completion = longestLine
+longestAnswer S.Prediction = measures * longestLine

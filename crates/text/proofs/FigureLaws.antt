@@ -13,25 +13,25 @@ use Rattle.exact.proofs.Signed.{sfits-abs, neg-abs}
 use Rattle.text.specs.declared.figures.Number.the-variants as N
 use Rattle.text.specs.declared.figures.Signed.the-variants as S
 use Rattle.numerals.specs.Render.{minus}
-use Rattle.text.specs.Grammar.{unsignedOf, plain, negative, figureOf}
+use Rattle.text.specs.Grammar.{unsignedOf, plain, negative, signedOf}
 
 module _ (signed : Bool) (s : List ℕ) where
-  pub no-bytes : length s ≡ 0 → figureOf signed s ≡ S.Malformed
-  unfolding figureOf unsignedOf plain
+  pub no-bytes : length s ≡ 0 → signedOf signed s ≡ S.Malformed
+  unfolding signedOf unsignedOf plain
   no-bytes h =
       let l : length s ≤ 0 = omega arith in
       rw (List·getD-eq-default s 0 l, eq-eqb (length s) 0 h)
 
-  pub minus-barred : getD s 0 0 ≡ minus → signed ≡ false → figureOf signed s ≡ S.Malformed
-  unfolding figureOf
+  pub minus-barred : getD s 0 0 ≡ minus → signed ≡ false → signedOf signed s ≡ S.Malformed
+  unfolding signedOf
   minus-barred h e = rw (eq-eqb (getD s 0 0) minus h, e)
 
-  pub minus-taken : getD s 0 0 ≡ minus → signed ≡ true → figureOf signed s ≡ negative (unsignedOf (drop 1 s))
-  unfolding figureOf
+  pub minus-taken : getD s 0 0 ≡ minus → signed ≡ true → signedOf signed s ≡ negative (unsignedOf (drop 1 s))
+  unfolding signedOf
   minus-taken h e = rw (eq-eqb (getD s 0 0) minus h, e)
 
-  pub no-minus : (getD s 0 0 ≡ minus → ⊥) → figureOf signed s ≡ plain (unsignedOf s)
-  unfolding figureOf
+  pub no-minus : (getD s 0 0 ≡ minus → ⊥) → signedOf signed s ≡ plain (unsignedOf s)
+  unfolding signedOf
   no-minus h = rw (ne-eqb (getD s 0 0) minus h)
 
 -- after a minus sign stands the negative, if it is not 0

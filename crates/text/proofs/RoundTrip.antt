@@ -16,7 +16,7 @@ use Rattle.text.specs.declared.figures.Number.the-variants as N
 use Rattle.text.specs.declared.figures.Signed.the-variants as S
 use Rattle.text.specs.declared.figures.Word.the-variants as W
 use Rattle.numerals.specs.Render.{space, minus, digit0, digit9}
-use Rattle.text.specs.Grammar.{isDigit, digitsOf, unsignedOf, plain, negative, figureOf, asWord, fieldOf, spaceAt, signedOf}
+use Rattle.text.specs.Grammar.{isDigit, digitsOf, unsignedOf, plain, negative, signedOf, asWord, fieldOf, spaceAt, signedBack}
 use Rattle.numerals.specs.Render.{render, renderSigned}
 use Rattle.text.proofs.FigureLaws.{minus-taken, no-minus}
 use Rattle.numerals.proofs.RenderLaws.{by-tenths, render-one, render-more, length-one, length-more, length-render}
@@ -89,7 +89,7 @@ module _ (n : ℕ) (small : n < 1000000) where
       ) (digits-back n)
 
 -- a figure of either sign, where a minus sign is allowed
-pub figure-back : (signed : Bool) (z : ℤ) → natAbs z < 1000000 → (ltZ z (pos 0) ≡ true → signed ≡ true) → figureOf signed (renderSigned z) ≡ S.Is z
+pub figure-back : (signed : Bool) (z : ℤ) → natAbs z < 1000000 → (ltZ z (pos 0) ≡ true → signed ≡ true) → signedOf signed (renderSigned z) ≡ S.Is z
 unfolding renderSigned plain negative
 figure-back signed (pos n) h k =
     no-minus signed (render n) (λ e. omega (arith, first-digit n)) ∙ ap plain (number-back n h)
@@ -108,8 +108,8 @@ unfolding fieldOf asWord
 field-back signed z h k = rw (not-blank z, figure-back signed z h k)
 
 -- ---- a figure of any size
-pub signed-back : (z : ℤ) → signedOf (renderSigned z) ≡ S.Is z
-unfolding renderSigned signedOf plain negative
+pub signed-back : (z : ℤ) → signedBack (renderSigned z) ≡ S.Is z
+unfolding renderSigned signedBack plain negative
 signed-back (pos n) = rw (ne-eqb (getD (render n) 0 0) minus (λ e. omega (arith, first-digit n)), digits-back n)
 signed-back (negsuc n) = rw (digits-back (suc n))
 

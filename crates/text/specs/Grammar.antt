@@ -48,17 +48,17 @@ negative (N.Is (suc n)) = S.Is (negsuc n)
 negative N.Malformed = S.Malformed
 
 -- a number, after a minus sign where the field may have one
-unfoldable pub figureOf : Bool → List ℕ → Signed
-figureOf signed s = cond (eqb (getD s 0 0) minus) (cond signed (negative (unsignedOf (drop 1 s))) S.Malformed) (plain (unsignedOf s))
+unfoldable pub signedOf : Bool → List ℕ → Signed
+signedOf signed s = cond (eqb (getD s 0 0) minus) (cond signed (negative (unsignedOf (drop 1 s))) S.Malformed) (plain (unsignedOf s))
 
--- a figure is given
+-- such a number is given
 unfoldable pub asWord : Signed → Word
 asWord (S.Is v) = W.Is (Given v)
 asWord S.Malformed = W.Malformed
 
 -- blank is one "-"
 unfoldable pub fieldOf : Bool → List ℕ → Word
-fieldOf signed s = cond (eqb (length s) 1 && eqb (getD s 0 0) minus) (W.Is Blank) (asWord (figureOf signed s))
+fieldOf signed s = cond (eqb (length s) 1 && eqb (getD s 0 0) minus) (W.Is Blank) (asWord (signedOf signed s))
 
 -- ---- the line
 -- the most bytes that a line has before its LF
@@ -127,5 +127,5 @@ numberOf L.Malformed = No.malformed
 
 -- ---- read back
 -- a number of either sign, whatever its size
-unfoldable pub signedOf : List ℕ → Signed
-signedOf s = cond (eqb (getD s 0 0) minus) (negative (digitsOf 0 (drop 1 s))) (plain (digitsOf 0 s))
+unfoldable pub signedBack : List ℕ → Signed
+signedBack s = cond (eqb (getD s 0 0) minus) (negative (digitsOf 0 (drop 1 s))) (plain (digitsOf 0 s))

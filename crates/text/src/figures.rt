@@ -3,7 +3,7 @@ use request::Field;
 ghost use mathlib.Core.Path.{_≡_};
 ghost use Prim.Native.Nat.{_≤_};
 ghost use lib.ListN.{length};
-ghost use Rattle.text.specs.Grammar.{digitsOf, unsignedOf, figureOf, fieldOf};
+ghost use Rattle.text.specs.Grammar.{digitsOf, unsignedOf, signedOf, fieldOf};
 
 // What digits stand for.
 pub enum Number {
@@ -64,8 +64,8 @@ fn read_number(s: &[u8]) -> Number
 }
 
 // A number, after a minus sign where the field may have one. There is no "-0".
-fn read_figure(s: &[u8], signed: bool) -> Signed
-    ensures { λ r. ⌜ r ≡ figureOf signed (now (s .entry)) ⌝ }
+fn read_signed(s: &[u8], signed: bool) -> Signed
+    ensures { λ r. ⌜ r ≡ signedOf signed (now (s .entry)) ⌝ }
 {
     if s.len() == 0 {
         return Signed::Malformed;
@@ -97,7 +97,7 @@ pub fn read_field(s: &[u8], signed: bool) -> Word
             return Word::Is(Field::Blank);
         }
     }
-    match read_figure(s, signed) {
+    match read_signed(s, signed) {
         Signed::Is(v) => Word::Is(Field::Given(v)),
         Signed::Malformed => Word::Malformed,
     }

@@ -1,4 +1,4 @@
--- One "-" is blank, and what is not is the figure that `read_figure` found. Assumes nothing.
+-- One "-" is blank, and what is not is the figure that `read_signed` found. Assumes nothing.
 use borrow.Author.Needs.{needs}
 use borrow.Author.Tests.{eq-eqb, ne-eqb}
 use mathlib.Core.Path.{_≡_, sym, ap, _∙_}
@@ -23,8 +23,8 @@ returns : tie.Need-returns
 unfolding fieldOf
 returns c = rw (eq-eqb _ _ (c .before .before .if1 .taken), eq-eqb _ _ (c .if2 .taken))
 
-read-figure-requires : tie.Need-read-figure-requires
-read-figure-requires c κs = search needs
+read-signed-requires : tie.Need-read-signed-requires
+read-signed-requires c κs = search needs
 
 enum-known-v : tie.Need-enum-known-v
 enum-known-v c = search needs
@@ -43,11 +43,11 @@ not-blank c =
     (λ w. inr (ne-eqb (length s) 1 (w .left)))
     (c .if1 .came))
 
-figure : (c : tie.After-read-figure) →
+figure : (c : tie.After-read-signed) →
     let a = c .before .before .before .args in
-    fieldOf (a .signed) (now (a .s)) ≡ asWord (c .read-figure .result)
+    fieldOf (a .signed) (now (a .s)) ≡ asWord (c .read-signed .result)
 unfolding fieldOf
-figure c = rw (not-blank (c .before), c .read-figure .ensures)
+figure c = rw (not-blank (c .before), c .read-signed .ensures)
 
 v-fits : (c : tie.After-known-told) → SFits w64 (c .before .v .given .0 .0)
 v-fits c = record { sfits = c .known-told .given .0 .1 }
@@ -66,7 +66,7 @@ read-field-spec =
     (tie.spec
     shared-slice-read-if2
     returns
-    read-figure-requires
+    read-signed-requires
     enum-known-v
     enum-told
     returns-2

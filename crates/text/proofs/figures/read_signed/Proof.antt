@@ -9,11 +9,11 @@ use lib.ListN.{drop}
 use mir.Facts.{toZ-ofZ}
 use Rattle.lent.proofs.PartLaws.{rest}
 use Rattle.text.specs.declared.figures.Number.the-variants as N
-use Rattle.text.specs.Grammar.{unsignedOf, plain, negative, figureOf}
+use Rattle.text.specs.Grammar.{unsignedOf, plain, negative, signedOf}
 use Rattle.text.proofs.NumberLaws.{number-lt}
 use Rattle.text.proofs.FigureLaws.{no-bytes, minus-barred, minus-taken, no-minus, negative-is, plain-fits, negative-fits}
-use Rattle.text.proofs.figures.read_figure.Statement.{statement}
-use Rattle.text.proofs.figures.read_figure.Tie as tie
+use Rattle.text.proofs.figures.read_signed.Statement.{statement}
+use Rattle.text.proofs.figures.read_signed.Tie as tie
 
 returns : tie.Need-returns
 returns c =
@@ -52,7 +52,7 @@ behind c = c .read-number .ensures ∙ ap unsignedOf (rest (now (c .before .befo
 
 negated : (c : tie.After-read-number) →
     let a = c .before .before .before .before .before .before .before .args in
-    figureOf (a .signed) (now (a .s)) ≡ negative (c .read-number .result)
+    signedOf (a .signed) (now (a .s)) ≡ negative (c .read-number .result)
 negated c =
     let t = c .before .before in
     let a = t .before .before .before .before .before .args in
@@ -99,7 +99,7 @@ enum-told-2 c = search needs
 
 whole : (c : tie.After-read-number2) →
     let a = c .before .before .before .before .before .args in
-    figureOf (a .signed) (now (a .s)) ≡ plain (c .read-number2 .result)
+    signedOf (a .signed) (now (a .s)) ≡ plain (c .read-number2 .result)
 whole c =
     let a = c .before .before .before .before .before .args in
     no-minus (a .signed) (now (a .s)) (c .before .if2 .left) ∙ ap plain (sym (c .read-number2 .ensures))
@@ -120,8 +120,8 @@ returns-7 : tie.Need-returns-7
 unfolding plain
 returns-7 c = sym (whole (c .before .before) ∙ ap plain (c .enum-told2 .given .1))
 
-pub read-figure-spec : {M : Type 1} → statement M
-read-figure-spec =
+pub read-signed-spec : {M : Type 1} → statement M
+read-signed-spec =
     tie.close
     (tie.spec
     returns
