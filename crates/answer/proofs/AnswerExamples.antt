@@ -1,8 +1,8 @@
 -- Document 01's listing, line by line, and the line of a measure, worked out by the definitions. Assumes nothing.
 use mathlib.Core.Path.{_≡_, refl}
 use lib.IntN.{negsuc}
-use Rattle.text.specs.Grammar.{isDigit, digitsOf, numberOf, plain, figureOf, given, fieldOf, spaceAt, inFront, fieldsOf, requestOf, toLine}
-use Rattle.text.specs.Render.{ascii, digitsIn, render, renderSigned}
+use Rattle.text.specs.Grammar.{isDigit, digitsOf, unsignedOf, plain, signedOf, asWord, fieldOf, spaceAt, inFront, fieldsOf, requestOf, toLine}
+use Rattle.numerals.specs.Render.{ascii, digitsIn, render, renderSigned}
 use Rattle.answer.specs.declared.Sheet.the-variants as S
 use Rattle.answer.specs.RowLines.{rowLine}
 use Rattle.answer.specs.Sheets.{answerTo}
@@ -13,7 +13,7 @@ listing :
     × (answerTo S.Completion (ascii "650 90 300 40 10000 - 3000 0 90 - - - 2000") ≡ ascii "no 10\n")
     × (answerTo S.Completion (ascii "") ≡ ascii "no 14\n")
     × (answerTo S.Prediction (ascii "") ≡ ascii "no 14\n")
-unfolding answerTo ascii toLine fieldsOf spaceAt inFront fieldOf given figureOf plain numberOf digitsOf isDigit requestOf render digitsIn
+unfolding answerTo ascii toLine fieldsOf spaceAt inFront fieldOf asWord signedOf plain unsignedOf digitsOf isDigit requestOf render digitsIn
 listing = (refl, refl, refl, refl, refl)
 
 line-of-a-measure :

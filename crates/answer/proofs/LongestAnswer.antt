@@ -1,5 +1,5 @@
 -- No answer line is longer than 38 bytes, its LF counted: an accepted request's figures lie in their ranges, its rows' too, and no
--- refusal's number is above 14. Assumes nothing.
+-- refusal of a line has more than two digits. Assumes nothing.
 use Prim.Native.Nat.{ℕ, zero, suc, _*_, _≤_, _<_}
 use mathlib.Core.Path.{_≡_, refl, ap}
 use mathlib.Core.Bool.{Bool, true, false}
@@ -8,12 +8,14 @@ use native.Mathlib.Omega.{arith}
 use lib.Dec.{eqb}
 use lib.ListN.{length, getD, length-append}
 use borrow.Author.Tests.{eqb-true, eqb-false}
+use Rattle.refusals.specs.Order as No
 use Rattle.request.specs.declared.Request.{Request}
 use Rattle.outcome.specs.Refusals.{rows, refusal}
 use Rattle.outcome.specs.Answers.{completed, answer, completionOf}
 use Rattle.outcome.proofs.ExactlyWhen.{stages, number-is, number-most}
 use Rattle.outcome.proofs.Ranges.{source-range, source-given, top-range}
 use Rattle.outcome.proofs.SentBackWhole.{rrup-high, site-rows}
+use Rattle.tables.specs.Tables.{measures}
 use Rattle.model.specs.declared.Shown.{Shown}
 use Rattle.model.specs.Fixed.{noShown}
 use Rattle.prediction.specs.Spectra.{shownSpectrumOf}
@@ -21,24 +23,20 @@ use Rattle.prediction.proofs.DemandThree.{ShownSmall, shown-rows-small, shown-n
 use Rattle.text.specs.declared.read.Line.{Line}
 use Rattle.text.specs.declared.read.Line.the-variants as L
 use Rattle.text.specs.Grammar.{lineOf}
-use Rattle.text.proofs.RenderLaws.{length-render, length-signed}
+use Rattle.numerals.proofs.RenderLaws.{length-render, length-signed}
 use Rattle.lines.specs.Lines.{okLine, noLine, completionLine}
 use Rattle.lines.proofs.LineLaws.{length-ok, length-no}
 use Rattle.answer.specs.declared.Sheet.{Sheet}
 use Rattle.answer.specs.declared.Sheet.the-variants as S
 use Rattle.answer.specs.RowLines.{rowLine, rowLines, spectrumLines}
-use Rattle.answer.specs.Sheets.{sheetOf, replyOf, answerTo, longestAnswer}
+use Rattle.answer.specs.Sheets.{sheetOf, replyOf, answerTo, longestLine, longestAnswer}
 use Rattle.answer.proofs.RowLaws.{length-row, refused-line, good-lines}
 
 -- ---- the lines
--- the most bytes of a line
-abbrev most : ℕ
-most = longestAnswer S.Completion
-
-no-short : (n : ℕ) → n ≤ 14 → length (noLine n) ≤ most
+no-short : (n : ℕ) → n ≤ 99 → length (noLine n) ≤ longestLine
 no-short n h = omega (arith, length-no n, length-render 1 n (omega arith))
 
-ok-short : (r : Request) → refusal r ≡ 0 → length (okLine (completed r)) ≤ most
+ok-short : (r : Request) → refusal r ≡ 0 → length (okLine (completed r)) ≤ longestLine
 unfolding completed
 ok-short r e =
     let s = stages r e in
@@ -53,15 +51,15 @@ ok-short r e =
       length-render 4 (completed r .z25 .value) (omega (arith, site-rows r e .2)),
     )
 
-completion-short : (r : Request) → length (completionLine (completionOf r)) ≤ most
+completion-short : (r : Request) → length (completionLine (completionOf r)) ≤ longestLine
 unfolding completionLine completionOf answer
 completion-short r = go (refusal r) refl
   where
-    go : (n : ℕ) → refusal r ≡ n → length (completionLine (answer n r)) ≤ most
+    go : (n : ℕ) → refusal r ≡ n → length (completionLine (answer n r)) ≤ longestLine
     go zero e = ok-short r e
     go (suc n) e = no-short (suc n) (omega (arith, number-most r))
 
-row-short : (k : ℕ) (row : Shown) → k < 24 → ShownSmall row → length (rowLine k row) ≤ most
+row-short : (k : ℕ) (row : Shown) → k < measures → ShownSmall row → length (rowLine k row) ≤ longestLine
 row-short k row h b =
     omega (
       arith,
@@ -72,7 +70,7 @@ row-short k row h b =
       length-render 6 (row .sigma) (omega (arith, b .sigma)),
     )
 
-rows-short : (rows : List Shown) → ((k : ℕ) → k < 24 → ShownSmall (getD rows k noShown)) → (n : ℕ) → n ≤ 24 → length (rowLines n rows) ≤ n * most
+rows-short : (rows : List Shown) → ((k : ℕ) → k < measures → ShownSmall (getD rows k noShown)) → (n : ℕ) → n ≤ measures → length (rowLines n rows) ≤ n * longestLine
 unfolding rowLines
 rows-short rows b zero h = omega arith
 rows-short rows b (suc n) h =
@@ -91,7 +89,7 @@ spectrum-short r = go (eqb (shownSpectrumOf r .refusal) 0) refl
         omega (
           arith,
           ap length (good-lines (shownSpectrumOf r) (eqb-true (shownSpectrumOf r .refusal) 0 e)),
-          rows-short (shownSpectrumOf r .rows) (shown-rows-small r) 24 (omega arith),
+          rows-short (shownSpectrumOf r .rows) (shown-rows-small r) measures (omega arith),
         )
     go false e =
         omega (
@@ -104,9 +102,9 @@ spectrum-short r = go (eqb (shownSpectrumOf r .refusal) 0) refl
 reply-short : (sheet : Sheet) (l : Line) → length (replyOf sheet l) ≤ longestAnswer sheet
 unfolding replyOf sheetOf
 reply-short S.Completion (L.Is r) = completion-short r
-reply-short S.Completion L.Malformed = no-short 14 (omega arith)
+reply-short S.Completion L.Malformed = no-short No.malformed (omega arith)
 reply-short S.Prediction (L.Is r) = spectrum-short r
-reply-short S.Prediction L.Malformed = omega (arith, no-short 14 (omega arith))
+reply-short S.Prediction L.Malformed = omega (arith, no-short No.malformed (omega arith))
 
 pub answer-short : (sheet : Sheet) (s : List ℕ) → length (answerTo sheet s) ≤ longestAnswer sheet
 unfolding answerTo

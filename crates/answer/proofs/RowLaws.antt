@@ -8,14 +8,15 @@ use native.Mathlib.Numerals.{add-one}
 use borrow.Author.Tests.{eq-eqb, ne-eqb, ltb-true, ltb-false}
 use lib.Dec.{ltb}
 use lib.ListN.{length, getD, length-append}
+use Rattle.tables.specs.Tables.{measures}
 use Rattle.model.specs.declared.Shown.{Shown}
 use Rattle.model.specs.Fixed.{noShown}
 use Rattle.prediction.specs.declared.shown.ShownSpectrum.{ShownSpectrum}
-use Rattle.text.specs.Grammar.{space}
-use Rattle.text.specs.Render.{render, renderSigned, Written}
-use Rattle.text.proofs.PutLaws.{room-after, then}
-use Rattle.lines.specs.Lines.{lf, noLine}
-use Rattle.lines.proofs.LineLaws.{length-ended}
+use Rattle.lent.specs.Lent.{Written}
+use Rattle.lent.proofs.PutLaws.{room-after, then}
+use Rattle.numerals.specs.Render.{lf, space, render, renderSigned}
+use Rattle.numerals.proofs.RenderLaws.{length-ended}
+use Rattle.lines.specs.Lines.{noLine}
 use Rattle.answer.specs.RowLines.{rowLine, rowLines, spectrumLines}
 
 pub length-row :
@@ -47,9 +48,9 @@ module _ (rows : List Shown) where
       go false e ih = omega (arith, ih (ltb-false n k e), length-append (rowLines n rows) (rowLine n (getD rows n noShown)))
 
   -- the next line behind those written, where all have room
-  module _ {b : List ℕ} {k at : ℕ} {out : List ℕ} (w : Written b 0 (rowLines k rows) at out) (more : k < 24) (room : length (rowLines 24 rows) ≤ length b) where
+  module _ {b : List ℕ} {k at : ℕ} {out : List ℕ} (w : Written b 0 (rowLines k rows) at out) (more : k < measures) (room : length (rowLines measures rows) ≤ length b) where
     both : 0 + length (rowLines k rows ++ rowLine k (getD rows k noShown)) ≤ length b
-    both = omega (arith, fewer (k + 1) 24 (omega arith), ap length (rows-next k))
+    both = omega (arith, fewer (k + 1) measures (omega arith), ap length (rows-next k))
 
     pub row-room : at + length (rowLine k (getD rows k noShown)) ≤ length out
     row-room = room-after w (rowLine k (getD rows k noShown)) both
@@ -63,6 +64,6 @@ module _ (s : ShownSpectrum) where
   unfolding spectrumLines
   refused-line h = rw (ne-eqb (s .refusal) 0 h)
 
-  pub good-lines : s .refusal ≡ 0 → spectrumLines s ≡ rowLines 24 (s .rows)
+  pub good-lines : s .refusal ≡ 0 → spectrumLines s ≡ rowLines measures (s .rows)
   unfolding spectrumLines
   good-lines h = rw (eq-eqb (s .refusal) 0 h)

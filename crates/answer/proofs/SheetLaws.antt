@@ -2,6 +2,7 @@
 use Prim.Native.Nat.{ℕ}
 use mathlib.Core.Path.{_≡_}
 use mathlib.Core.List.{List}
+use Rattle.refusals.specs.Order as No
 use Rattle.request.specs.declared.Request.{Request}
 use Rattle.outcome.specs.Answers.{completionOf}
 use Rattle.prediction.specs.Spectra.{shownSpectrumOf}
@@ -13,7 +14,7 @@ use Rattle.answer.specs.declared.Sheet.the-variants as S
 use Rattle.answer.specs.RowLines.{spectrumLines}
 use Rattle.answer.specs.Sheets.{answerTo}
 
-pub malformed-line : (sheet : Sheet) (s : List ℕ) → lineOf s ≡ L.Malformed → answerTo sheet s ≡ noLine 14
+pub malformed-line : (sheet : Sheet) (s : List ℕ) → lineOf s ≡ L.Malformed → answerTo sheet s ≡ noLine No.malformed
 unfolding answerTo
 malformed-line sheet s e = rw e
 

@@ -5,12 +5,12 @@ use mathlib.Core.Bool.{cond}
 use mathlib.Core.List.{List, [], _∷_, _++_}
 use lib.Dec.{eqb}
 use lib.ListN.{getD}
+use Rattle.tables.specs.Tables.{measures}
 use Rattle.model.specs.declared.Shown.{Shown}
 use Rattle.model.specs.Fixed.{noShown}
 use Rattle.prediction.specs.declared.shown.ShownSpectrum.{ShownSpectrum}
-use Rattle.text.specs.Grammar.{space}
-use Rattle.text.specs.Render.{renderSigned}
-use Rattle.lines.specs.Lines.{lf, ended, noLine}
+use Rattle.numerals.specs.Render.{lf, space, renderSigned, ended}
+use Rattle.lines.specs.Lines.{noLine}
 
 -- the line of measure k
 unfoldable pub rowLine : ℕ → Shown → List ℕ
@@ -26,4 +26,4 @@ rowLines (suc k) rows = rowLines k rows ++ rowLine k (getD rows k noShown)
 -- the lines of a spectrum, or that of its refusal
 unfoldable pub spectrumLines : ShownSpectrum → List ℕ
 unfolding rowLines noLine
-spectrumLines s = cond (eqb (s .refusal) 0) (rowLines 24 (s .rows)) (noLine (s .refusal))
+spectrumLines s = cond (eqb (s .refusal) 0) (rowLines measures (s .rows)) (noLine (s .refusal))

@@ -3,29 +3,27 @@
 mod rows;
 
 use completion::complete;
-use lines::Wrote;
+use lent::Wrote;
 use lines::write_completion;
 use lines::write_no;
 use prediction::predict_shown;
+use refusals::MALFORMED;
 pub use rows::write_spectrum;
 use text::Line;
 use text::read_line;
-ghost use Rattle.lines.specs.Lines.{LineWritten};
+ghost use Rattle.lent.specs.Lent.{LentWritten};
 ghost use Rattle.answer.specs.Sheets.{answerTo};
 
-// The refusal of a line that cannot be read.
-pub const MALFORMED: u32 = 14;
-
-// Which answers are asked for: the completed figures, or the rows of the 24 measures.
+// Which answers are asked for: the completed figures, or the rows of the measures.
 pub enum Sheet {
     Completion,
     Prediction,
 }
 
-// The answer to a line without its LF: any bytes, of any length. Its only refusal is 16, and then no
-// byte of `out` has changed.
+// The answer to a line without its LF: any bytes, of any length. Its only refusal is TOO_LONG, and
+// then no byte of `out` has changed.
 pub fn answer_line(sheet: Sheet, s: &[u8], out: &mut [u8]) -> Wrote
-    ensures { λ r. ⌜ LineWritten (now (out .entry)) (answerTo sheet (now (s .entry))) r (now (out .exit)) ⌝ }
+    ensures { λ r. ⌜ LentWritten (now (out .entry)) (answerTo sheet (now (s .entry))) r (now (out .exit)) ⌝ }
 {
     let Line::Is(r) = read_line(s) else {
         return write_no(out, MALFORMED);

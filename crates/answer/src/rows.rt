@@ -1,24 +1,22 @@
 // A spectrum as lines of text, one a measure, written into lent bytes: counted first, so that lines
 // too long for them change none.
-use lines::TOO_LONG;
-use lines::Wrote;
-use lines::put_ended;
+use lent::Wrote;
+use lent::put_byte;
 use lines::write_no;
 use model::Shown;
+use numerals::digits;
+use numerals::put_ended;
+use numerals::put_signed;
+use numerals::width;
 use prediction::ShownSpectrum;
-use text::digits;
-use text::put_byte;
-use text::put_signed;
-use text::width;
+use refusals::TOO_LONG;
+use tables::MEASURES;
 ghost use mathlib.Core.Path.{_≡_};
 ghost use Prim.Native.Nat.{_+_, _≤_};
 ghost use lib.ListN.{length};
-ghost use Rattle.text.specs.Render.{Written};
-ghost use Rattle.lines.specs.Lines.{LineWritten};
+ghost use Rattle.tables.specs.Tables.{measures};
+ghost use Rattle.lent.specs.Lent.{Written, LentWritten};
 ghost use Rattle.answer.specs.RowLines.{rowLine, rowLines, spectrumLines};
-
-// How many measures a spectrum has.
-const MEASURES: usize = 24;
 
 // The line of a measure, for which there is room.
 fn put_row(out: &mut [u8], at: usize, k: u64, row: Shown) -> usize
@@ -40,9 +38,9 @@ fn row_length(k: u64, row: Shown) -> usize
 }
 
 // The lines of all measures, for which there is room.
-fn put_rows(out: &mut [u8], rows: [Shown; 24]) -> usize
-    requires { ⌜ length (rowLines 24 rows) ≤ length (now out) ⌝ }
-    ensures { λ r. ⌜ Written (now (out .entry)) 0 (rowLines 24 rows) r (now (out .exit)) ⌝ }
+fn put_rows(out: &mut [u8], rows: [Shown; MEASURES]) -> usize
+    requires { ⌜ length (rowLines measures rows) ≤ length (now out) ⌝ }
+    ensures { λ r. ⌜ Written (now (out .entry)) 0 (rowLines measures rows) r (now (out .exit)) ⌝ }
 {
     let mut at = 0usize;
     let mut k = 0usize;
@@ -54,8 +52,8 @@ fn put_rows(out: &mut [u8], rows: [Shown; 24]) -> usize
 }
 
 // How many bytes the lines of all measures have.
-fn rows_length(rows: [Shown; 24]) -> usize
-    ensures { λ r. ⌜ r ≡ length (rowLines 24 rows) ⌝ }
+fn rows_length(rows: [Shown; MEASURES]) -> usize
+    ensures { λ r. ⌜ r ≡ length (rowLines measures rows) ⌝ }
 {
     let mut n = 0usize;
     let mut i = 0usize;
@@ -66,10 +64,10 @@ fn rows_length(rows: [Shown; 24]) -> usize
     n
 }
 
-// The lines of a spectrum, or the line of its refusal. Its only refusal is 16, and then no byte of
-// `out` has changed.
+// The lines of a spectrum, or the line of its refusal. Its only refusal is TOO_LONG, and then no
+// byte of `out` has changed.
 pub fn write_spectrum(out: &mut [u8], s: ShownSpectrum) -> Wrote
-    ensures { λ r. ⌜ LineWritten (now (out .entry)) (spectrumLines s) r (now (out .exit)) ⌝ }
+    ensures { λ r. ⌜ LentWritten (now (out .entry)) (spectrumLines s) r (now (out .exit)) ⌝ }
 {
     let refusal = s.refusal;
     if refusal != 0 {

@@ -9,18 +9,21 @@ use native.Mathlib.Omega.{arith}
 use lib.Dec.{ltb, eqb}
 use lib.ListN.{length, getD, length-append}
 use borrow.Author.Tests.{lt-ltb, le-ltb, ltb-true, ltb-false, eqb-true, eqb-false}
+use Rattle.refusals.specs.Order as No
 use Rattle.outcome.specs.declared.Completion.{Completion}
 use Rattle.outcome.specs.declared.Completion.the-variants as C
 use Rattle.outcome.specs.Answers.{completionOf}
+use Rattle.tables.specs.Tables.{measures}
 use Rattle.model.specs.declared.Shown.{Shown}
 use Rattle.model.specs.Fixed.{noShown}
 use Rattle.prediction.specs.declared.shown.ShownSpectrum.{ShownSpectrum}
 use Rattle.prediction.specs.Spectra.{shownSpectrumOf}
+use Rattle.lent.specs.declared.Wrote.{Wrote}
+use Rattle.lent.specs.Lent.{countOf, wrote, LentWritten}
 use Rattle.text.specs.declared.read.Line.{Line}
 use Rattle.text.specs.declared.read.Line.the-variants as L
 use Rattle.text.specs.Grammar.{lineOf}
-use Rattle.lines.specs.declared.Wrote.{Wrote}
-use Rattle.lines.specs.Lines.{completionLine, wrote, LineWritten}
+use Rattle.lines.specs.Lines.{completionLine}
 use Rattle.lines.proofs.LineLaws.{length-ok, length-no}
 use Rattle.answer.specs.declared.Sheet.{Sheet}
 use Rattle.answer.specs.declared.Sheet.the-variants as S
@@ -28,20 +31,12 @@ use Rattle.answer.specs.RowLines.{rowLine, rowLines, spectrumLines}
 use Rattle.answer.specs.Sheets.{sheetOf, replyOf, answerTo, longestAnswer}
 use Rattle.answer.proofs.RowLaws.{length-row, refused-line, good-lines}
 use Rattle.answer.proofs.LongestAnswer.{answer-short}
-use Rattle.export.specs.Given.{countOf, fitting, LineGiven}
+use Rattle.export.specs.Given.{LineGiven}
 
 -- ---- the count
-count-fitting : (n : ℕ) (s : List ℕ) → countOf (wrote n s) ≡ fitting n s
-unfolding countOf wrote fitting
-count-fitting n s = go (ltb n (length s)) refl
-  where
-    go : (t : Bool) → ltb n (length s) ≡ t → countOf (wrote n s) ≡ fitting n s
-    go true e = rw e
-    go false e = rw e
-
 -- what a line writer promises, its answer counted
-pub line-given : {b s : List ℕ} {w : Wrote} {b₁ : List ℕ} (n : ℕ) → LineWritten b s w b₁ → n ≡ countOf w → LineGiven b s n b₁
-line-given {b} {s} n w e = record { count = e ∙ ap countOf (w .answer) ∙ count-fitting (length b) s; bytes = w .bytes }
+pub line-given : {b s : List ℕ} {w : Wrote} {b₁ : List ℕ} (n : ℕ) → LentWritten b s w b₁ → n ≡ countOf w → LineGiven b s n b₁
+line-given n w e = record { count = e ∙ ap countOf (w .answer); bytes = w .became }
 
 -- ---- no answer is empty
 some-completion : (c : Completion) → 0 < length (completionLine c)
@@ -49,7 +44,7 @@ unfolding completionLine
 some-completion (C.Done c) = omega (arith, length-ok c)
 some-completion (C.Refused n) = omega (arith, length-no n)
 
-some-rows : (rows : List Shown) → 0 < length (rowLines 24 rows)
+some-rows : (rows : List Shown) → 0 < length (rowLines measures rows)
 unfolding rowLines
 some-rows rows =
     omega (arith, length-append (rowLines 23 rows) (rowLine 23 (getD rows 23 noShown)), length-row 23 (getD rows 23 noShown))
@@ -65,8 +60,8 @@ some-reply : (sheet : Sheet) (l : Line) → 0 < length (replyOf sheet l)
 unfolding replyOf sheetOf
 some-reply S.Completion (L.Is r) = some-completion (completionOf r)
 some-reply S.Prediction (L.Is r) = some-spectrum (shownSpectrumOf r)
-some-reply S.Completion L.Malformed = omega (arith, length-no 14)
-some-reply S.Prediction L.Malformed = omega (arith, length-no 14)
+some-reply S.Completion L.Malformed = omega (arith, length-no No.malformed)
+some-reply S.Prediction L.Malformed = omega (arith, length-no No.malformed)
 
 pub some-answer : (sheet : Sheet) (s : List ℕ) → 0 < length (answerTo sheet s)
 unfolding answerTo
@@ -75,11 +70,11 @@ some-answer sheet s = some-reply sheet (lineOf s)
 -- ---- what the count says
 module _ {b s : List ℕ} {n : ℕ} {b₁ : List ℕ} (g : LineGiven b s n b₁) where
   pub count-refused : length b < length s → n ≡ 0
-  unfolding fitting
+  unfolding wrote
   count-refused h = g .count ∙ rw (lt-ltb (length b) (length s) h)
 
   pub count-written : length s ≤ length b → n ≡ length s
-  unfolding fitting
+  unfolding wrote
   count-written h = g .count ∙ rw (le-ltb (length b) (length s) h)
 
 module _ (sheet : Sheet) (line : List ℕ) {b : List ℕ} {n : ℕ} {b₁ : List ℕ} (g : LineGiven b (answerTo sheet line) n b₁) where

@@ -69,4 +69,4 @@ request-not-0 r k h = by-completion r done refused
 pub not-0 : (l : Line) (k : ℕ) → measureAnswer l k ≡ M.Refused 0 → ⊥
 unfolding measureAnswer
 not-0 (L.Is r) k h = request-not-0 r k h
-not-0 L.Malformed k h = omega (arith, same-number 14 0 h)
+not-0 L.Malformed k h = omega (arith, same-number No.malformed 0 h)

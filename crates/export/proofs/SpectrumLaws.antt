@@ -1,22 +1,25 @@
 -- What each answer for a spectrum leaves in the lent numbers. Assumes nothing.
-use Prim.Native.Nat.{ℕ, _≤_, _<_}
-use mathlib.Core.Path.{_≡_, sym, _∙_}
+use Prim.Native.Nat.{ℕ, _*_}
+use mathlib.Core.Path.{_≡_, sym, ap, _∙_}
 use mathlib.Core.List.{List}
 use native.Mathlib.Omega.{arith}
-use lib.ListN.{length, length-map}
+use lib.ListN.{length}
 use lib.Ieee.{Float}
-use borrow.Author.Tests.{ne-eqb, lt-ltb, le-ltb}
+use borrow.Author.Tests.{ne-eqb}
+use Rattle.refusals.specs.Order as No
 use Rattle.request.specs.declared.Request.{Request}
+use Rattle.tables.specs.Tables.{measures}
+use Rattle.prediction.specs.declared.floats.FloatSpectrum.{FloatSpectrum}
+use Rattle.prediction.specs.Floats.{floatSpectrumOf}
+use Rattle.prediction.proofs.FloatLaws.{float-length}
+use Rattle.lent.specs.declared.Wrote.{Wrote}
+use Rattle.lent.specs.Lent.{numberOf, LentWritten}
 use Rattle.text.specs.declared.read.Line.{Line}
 use Rattle.text.specs.declared.read.Line.the-variants as L
-use Rattle.prediction.specs.declared.floats.FloatSpectrum.{FloatSpectrum}
-use Rattle.prediction.specs.Spectra.{spectrumOf}
-use Rattle.prediction.specs.Floats.{floatsOf, floatSpectrumOf}
-use Rattle.prediction.proofs.DemandThree.{twenty-four}
-use Rattle.export.specs.Given.{over, numbersOf, spectrumNumbers, spectrumAnswer, spectrumRefusal, spectrumAfter, SpectrumGiven}
+use Rattle.export.specs.Given.{spectrumNumbers, spectrumAnswer, spectrumRefusal, spectrumAfter, SpectrumGiven}
 use Rattle.export.proofs.PlaceLaws.{length-numbers}
 
-pub of-malformed : (l : Line) → l ≡ L.Malformed → spectrumAnswer l .refusal ≡ 14
+pub of-malformed : (l : Line) → l ≡ L.Malformed → spectrumAnswer l .refusal ≡ No.malformed
 unfolding spectrumAnswer
 of-malformed l e = rw e
 
@@ -24,46 +27,20 @@ pub of-request : (l : Line) (r : Request) → l ≡ L.Is r → spectrumAnswer l 
 unfolding spectrumAnswer
 of-request l r e = rw e
 
-pub rows-24 : (r : Request) → length (floatSpectrumOf r .rows) ≡ 24
-unfolding floatSpectrumOf
-rows-24 r = length-map (spectrumOf r .rows) floatsOf ∙ twenty-four r
-
 -- by the refusal of the request, and the room
 module _ (s : FloatSpectrum) (b : List Float) where
   -- a number other than 0 leaves all as it was
-  same : (n : ℕ) → spectrumRefusal s (length b) ≡ n → (n ≡ 0 → ⊥) → spectrumAfter s b ≡ b
-  unfolding spectrumAfter
-  same n e ne = rw (e, ne-eqb n 0 ne)
-
-  unchanged : (n : ℕ) → spectrumRefusal s (length b) ≡ n → (n ≡ 0 → ⊥) → SpectrumGiven s b n b
-  unchanged n e ne = record { refusal = sym e; rows = sym (same n e ne) }
-
-  number-refused : (n : ℕ) → s .refusal ≡ n → (n ≡ 0 → ⊥) → spectrumRefusal s (length b) ≡ n
-  unfolding spectrumRefusal
-  number-refused n e ne = rw (e, ne-eqb n 0 ne)
-
-  number-short : s .refusal ≡ 0 → length b < 144 → spectrumRefusal s (length b) ≡ 16
-  unfolding spectrumRefusal
-  number-short e h = rw (e, lt-ltb (length b) 144 h)
-
-  number-none : s .refusal ≡ 0 → 144 ≤ length b → spectrumRefusal s (length b) ≡ 0
-  unfolding spectrumRefusal
-  number-none e h = rw (e, le-ltb (length b) 144 h)
-
-  changed : spectrumRefusal s (length b) ≡ 0 → spectrumAfter s b ≡ over b 0 (numbersOf (s .rows))
-  unfolding spectrumAfter spectrumNumbers
-  changed e = rw e
-
   pub spectrum-refused : (n : ℕ) → s .refusal ≡ n → (n ≡ 0 → ⊥) → SpectrumGiven s b n b
-  spectrum-refused n e ne = unchanged n (number-refused n e ne) ne
+  unfolding spectrumRefusal spectrumAfter
+  spectrum-refused n e ne = record { refusal = rw (e, ne-eqb n 0 ne); rows = rw (e, ne-eqb n 0 ne) }
 
-  pub spectrum-short : s .refusal ≡ 0 → length b < 144 → SpectrumGiven s b 16 b
-  spectrum-short e h = unchanged 16 (number-short e h) (λ z. omega arith)
-
-  pub spectrum-given : s .refusal ≡ 0 → 144 ≤ length b → SpectrumGiven s b 0 (over b 0 (numbersOf (s .rows)))
-  spectrum-given e h = record { refusal = sym (number-none e h); rows = sym (changed (number-none e h)) }
+  -- else it goes by the room
+  pub spectrum-wrote : {w : Wrote} {b₁ : List Float} → s .refusal ≡ 0 → LentWritten b (spectrumNumbers s) w b₁ → SpectrumGiven s b (numberOf w) b₁
+  unfolding spectrumRefusal spectrumAfter
+  spectrum-wrote {w} e v = record { refusal = rw e (ap numberOf (v .answer)); rows = rw e (v .became) }
 
 -- ---- what stands where
-pub numbers-144 : (r : Request) → length (spectrumNumbers (floatSpectrumOf r)) ≡ 144
+-- all rows have six numbers
+pub numbers-all : (r : Request) → length (spectrumNumbers (floatSpectrumOf r)) ≡ 6 * measures
 unfolding spectrumNumbers
-numbers-144 r = omega (arith, length-numbers (floatSpectrumOf r .rows), rows-24 r)
+numbers-all r = omega (arith, length-numbers (floatSpectrumOf r .rows), float-length r)

@@ -1,44 +1,36 @@
 -- What the exported functions give back, and what they leave in lent bytes and numbers. Definitions only.
-use Prim.Native.Nat.{ℕ, _+_}
+use Prim.Native.Nat.{ℕ}
 use mathlib.Core.Path.{_≡_}
 use mathlib.Core.Bool.{cond}
 use mathlib.Core.List.{List, [], _∷_, _++_}
-use lib.Dec.{ltb, eqb}
-use lib.ListN.{length, take, drop}
+use lib.Dec.{eqb}
+use lib.ListN.{length}
 use lib.Ieee.{Float}
-use Rattle.text.specs.declared.read.Line.{Line}
-use Rattle.text.specs.declared.read.Line.the-variants as L
 use Rattle.prediction.specs.declared.floats.FloatRow.{FloatRow}
 use Rattle.prediction.specs.declared.floats.FloatSpectrum.{FloatSpectrum}
 use Rattle.prediction.specs.declared.measure.OneMeasure.{OneMeasure}
 use Rattle.prediction.specs.declared.measure.OneMeasure.the-variants as M
 use Rattle.prediction.specs.Floats.{floatSpectrumOf}
 use Rattle.prediction.specs.Measures.{measureOf}
-use Rattle.lines.specs.declared.Wrote.{Wrote}
-use Rattle.lines.specs.declared.Wrote.the-variants as W
-use Rattle.lines.specs.Lines.{after}
+use Rattle.lent.specs.Lent as Lent
+use Rattle.lent.specs.Lent.{countOf, wrote, after}
+use Rattle.text.specs.declared.read.Line.{Line}
+use Rattle.text.specs.declared.read.Line.the-variants as L
+use Rattle.text.specs.Grammar.{numberOf}
 
 -- ---- a line
--- the number that stands for a line writer's answer: no answer line is empty, so that 0 is free for its refusal
-unfoldable pub countOf : Wrote → ℕ
-countOf (W.To n) = n
-countOf (W.Refused n) = 0
-
--- how many of n lent bytes the line s takes: none where it is longer
-unfoldable pub fitting : ℕ → List ℕ → ℕ
-fitting n s = cond (ltb n (length s)) 0 (length s)
-
--- what is promised of the line s and the lent bytes b: their count n, and the bytes b₁ that b became
+-- what is promised of the line s and the lent bytes b: the count n of those written, and the bytes b₁ that b became. No answer line is
+-- empty, so that 0 is free for a refusal
 pub record LineGiven (b s : List ℕ) (n : ℕ) (b₁ : List ℕ) : Type 0 where
-  pub count : n ≡ fitting (length b) s
+  pub count : n ≡ countOf (wrote (length b) s)
   pub bytes : b₁ ≡ after b s
 
 -- ---- one measure
--- that of a line: refusal 14 for a malformed one
+-- that of a line: a malformed one is refused
 unfoldable pub measureAnswer : Line → ℕ → OneMeasure
 unfolding measureOf
 measureAnswer (L.Is r) k = measureOf r k
-measureAnswer L.Malformed k = M.Refused 14
+measureAnswer L.Malformed k = M.Refused (numberOf L.Malformed)
 
 -- the refusal's number, 0 for none
 unfoldable pub refusalIn : OneMeasure → ℕ
@@ -62,11 +54,11 @@ pub record MeasureGiven (a : OneMeasure) (n : ℕ) (y y₁ s s₁ : Float) : Typ
   pub total : s₁ ≡ totalAfter a s
 
 -- ---- a spectrum
--- that of a line: refusal 14 and no rows for a malformed one
+-- that of a line: a malformed one is refused, and has no rows
 unfoldable pub spectrumAnswer : Line → FloatSpectrum
 unfolding floatSpectrumOf
 spectrumAnswer (L.Is r) = floatSpectrumOf r
-spectrumAnswer L.Malformed = record { refusal = 14; rows = [] }
+spectrumAnswer L.Malformed = record { refusal = numberOf L.Malformed; rows = [] }
 
 -- the six numbers of a row in document 01's order
 unfoldable pub rowNumbers : FloatRow → List Float
@@ -83,22 +75,15 @@ unfoldable pub spectrumNumbers : FloatSpectrum → List Float
 unfolding numbersOf
 spectrumNumbers s = numbersOf (s .rows)
 
--- b with s written over it from place p on
-unfoldable pub over : List Float → ℕ → List Float → List Float
-over b p s = take p b ++ s ++ drop (p + length s) b
-
--- how many numbers a spectrum has
-abbrev pub numbers : ℕ
-numbers = 144
-
--- the refusal's number where n numbers are lent: 16 for too few, tested after all else
+-- the refusal's number where n numbers are lent: too few are told of after all else
 unfoldable pub spectrumRefusal : FloatSpectrum → ℕ → ℕ
-spectrumRefusal s n = cond (eqb (s .refusal) 0) (cond (ltb n numbers) 16 0) (s .refusal)
+unfolding wrote spectrumNumbers
+spectrumRefusal s n = cond (eqb (s .refusal) 0) (Lent.numberOf (wrote n (spectrumNumbers s))) (s .refusal)
 
 -- the lent numbers b afterwards: as they were on a refusal
 unfoldable pub spectrumAfter : FloatSpectrum → List Float → List Float
-unfolding spectrumRefusal over spectrumNumbers
-spectrumAfter s b = cond (eqb (spectrumRefusal s (length b)) 0) (over b 0 (spectrumNumbers s)) b
+unfolding after spectrumNumbers
+spectrumAfter s b = cond (eqb (s .refusal) 0) (after b (spectrumNumbers s)) b
 
 -- what is promised of the spectrum s and the lent numbers b: the number n, and the numbers b₁ that b became
 pub record SpectrumGiven (s : FloatSpectrum) (b : List Float) (n : ℕ) (b₁ : List Float) : Type 0 where

@@ -2,14 +2,14 @@
 // bytes and numbers that it is lent, and a refusal changes none of them.
 mod rows;
 
-use answer::MALFORMED;
 use answer::Sheet;
 use answer::answer_line;
-use lines::TOO_LONG;
-use lines::Wrote;
+use lent::count_of;
 use prediction::OneMeasure;
 use prediction::predict_floats;
 use prediction::predict_measure;
+use refusals::MALFORMED;
+use refusals::TOO_LONG;
 use rows::NUMBERS;
 use rows::put_rows;
 use text::Line;
@@ -18,18 +18,8 @@ ghost use mathlib.Core.Path.{_≡_};
 ghost use Rattle.text.specs.Grammar.{lineOf};
 ghost use Rattle.answer.specs.declared.Sheet.the-variants as S;
 ghost use Rattle.answer.specs.Sheets.{answerTo};
-ghost use Rattle.export.specs.Given.{countOf, LineGiven, MeasureGiven, SpectrumGiven};
+ghost use Rattle.export.specs.Given.{LineGiven, MeasureGiven, SpectrumGiven};
 ghost use Rattle.export.specs.Given.{measureAnswer, spectrumAnswer};
-
-// How many bytes were written: none on a refusal.
-fn count_of(w: Wrote) -> usize
-    ensures { λ n. ⌜ n ≡ countOf w ⌝ }
-{
-    match w {
-        Wrote::To(n) => n,
-        Wrote::Refused(_) => 0,
-    }
-}
 
 // The completing program's answer to a line without its LF: how many bytes it has at the start of
 // `out`, or 0 where it is longer, and then no byte has changed.
@@ -80,7 +70,7 @@ pub extern "C" fn xanhupive_measure(
     }
 }
 
-// The 24 rows of a line without its LF, six numbers a row, at the start of `rows`: 0, or the refusal's
+// The rows of a line without its LF, six numbers a row, at the start of `rows`: 0, or the refusal's
 // number, and then no number has changed.
 #[no_mangle]
 pub extern "C" fn xanhupive_spectrum(line: &[u8], rows: &mut [f64]) -> u32

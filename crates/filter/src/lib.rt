@@ -1,9 +1,9 @@
 // What the programs share: a list of requests on standard input, the answers of a sheet on standard
 // output. It holds two blocks and a reader, however long the list is.
 use answer::Sheet;
+use lent::Wrote;
 use libc::STDIN_FILENO;
 use libc::STDOUT_FILENO;
-use lines::Wrote;
 use lists::Reader;
 use lists::close_list;
 use lists::new_reader;

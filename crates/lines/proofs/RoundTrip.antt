@@ -11,14 +11,15 @@ use Rattle.outcome.specs.declared.Figure.{Figure}
 use Rattle.outcome.specs.declared.Completed.{Completed}
 use Rattle.outcome.specs.declared.Completion.{Completion}
 use Rattle.outcome.specs.declared.Completion.the-variants as C
-use Rattle.text.specs.Grammar.{space, spaceAt, digitsOf}
-use Rattle.text.specs.Render.{ascii, render, put}
-use Rattle.text.proofs.PutLaws.{text-put}
+use Rattle.lent.specs.declared.Wrote.the-variants as W
+use Rattle.lent.specs.Lent.{put, LentWritten}
+use Rattle.lent.proofs.PutLaws.{read-put}
+use Rattle.lent.proofs.WroteLaws.{to-fits, after-fits}
+use Rattle.numerals.specs.Render.{lf, space, ascii, render, ended}
+use Rattle.text.specs.Grammar.{spaceAt, digitsOf}
 use Rattle.text.proofs.RoundTrip.{digits-back, space-past, number-no-space}
-use Rattle.lines.specs.declared.Wrote.the-variants as W
-use Rattle.lines.specs.Lines.{lf, estimate, given, ended, letterOf, spaced, letters, okLine, noLine, completionLine, LineWritten}
-use Rattle.lines.specs.ReadBack.{figures, number, reportOf, valueOf, numberIn, behind, figureIn, figuresIn, readBack}
-use Rattle.lines.proofs.LineLaws.{to-fits, after-fits}
+use Rattle.lines.specs.Lines.{letterE, letterG, letterOf, spaced, letters, okLine, noLine, completionLine}
+use Rattle.lines.specs.ReadBack.{figures, number, reportOf, orZero, numberIn, behind, figureIn, figuresIn, readBack}
 
 -- ---- a figure and what stands behind it
 module _ (f : Figure) (s : List ℕ) where
@@ -31,7 +32,7 @@ module _ (f : Figure) (s : List ℕ) where
   space-first = space-past (render (f .value)) (space ∷ s) (number-no-space (f .value)) ∙ omega arith
 
   pub number-first : numberIn (spaced f ++ s) ≡ f .value
-  unfolding numberIn valueOf
+  unfolding numberIn orZero
   number-first =
       rw (open-spaced, space-first, take-append-seam (render (f .value)) (space ∷ s), digits-back (f .value))
 
@@ -41,7 +42,7 @@ module _ (f : Figure) (s : List ℕ) where
       rw (open-spaced, space-first, ← append-assoc (render (f .value)) (space ∷ []) s)
       (drop-at (render (f .value) ++ (space ∷ [])) s (length (render (f .value)) + 1) (length-append (render (f .value)) (space ∷ [])))
 
-letter-back : (n : ℕ) (t : Bool) → figureIn n (cond t estimate given) ≡ record { value = n; estimated = t }
+letter-back : (n : ℕ) (t : Bool) → figureIn n (cond t letterE letterG) ≡ record { value = n; estimated = t }
 unfolding figureIn
 letter-back n true = refl
 letter-back n false = refl
@@ -95,9 +96,9 @@ ok-back c =
     ∙ rw (figure-back (c .dip), figure-back (c .w), figure-back (c .ztor), figure-back (c .rrup), figure-back (c .z25))
 
 no-back : (n : ℕ) → readBack (noLine n) ≡ number n
-unfolding readBack noLine ended valueOf
+unfolding readBack noLine ended orZero
 no-back n =
-    ap (λ (s : List ℕ). number (valueOf (digitsOf 0 s)))
+    ap (λ (s : List ℕ). number (orZero (digitsOf 0 s)))
     (take-at (render n) (lf ∷ []) (length (render n ++ (lf ∷ [])) - 1) (omega (arith, length-append (render n) (lf ∷ []))))
     ∙ rw (digits-back n)
 
@@ -108,11 +109,11 @@ line-back (C.Refused n) = no-back n
 
 -- what a writer left in the lent bytes, read back from them
 pub written-back :
-    (c : Completion) {b b₁ : List ℕ} (n : ℕ) → LineWritten b (completionLine c) (W.To n) b₁ → readBack (take n b₁) ≡ reportOf c
+    (c : Completion) {b b₁ : List ℕ} (n : ℕ) → LentWritten b (completionLine c) (W.To n) b₁ → readBack (take n b₁) ≡ reportOf c
 written-back c {b} {b₁} n w =
     let s = completionLine c in
     let f = to-fits (length b) s n (w .answer) in
-    ap (λ (l : List ℕ). readBack (take n l)) (w .bytes ∙ after-fits b s (f .0))
+    ap (λ (l : List ℕ). readBack (take n l)) (w .became ∙ after-fits b s (f .0))
     ∙ ap (λ (k : ℕ). readBack (take k (put b 0 s))) (f .1)
-    ∙ ap readBack (text-put b 0 s (omega (arith, f .0)))
+    ∙ ap readBack (read-put b 0 s (omega (arith, f .0)))
     ∙ line-back c

@@ -10,7 +10,7 @@ use Rattle.outcome.specs.declared.Completion.the-variants as C
 use Rattle.text.specs.declared.figures.Number.{Number}
 use Rattle.text.specs.declared.figures.Number.the-variants as N
 use Rattle.text.specs.Grammar.{spaceAt, digitsOf}
-use Rattle.lines.specs.Lines.{estimate}
+use Rattle.lines.specs.Lines.{letterE}
 
 -- what an answer line tells: dip, W, ZTOR, RRUP and Z2.5, or a number
 pub data Report : Type 0 where
@@ -23,14 +23,14 @@ reportOf (C.Done c) = figures (c .dip) (c .w) (c .ztor) (c .rrup) (c .z25)
 reportOf (C.Refused n) = number n
 
 -- the number that digits stand for, 0 where a byte is no digit
-unfoldable pub valueOf : Number → ℕ
-valueOf (N.Is n) = n
-valueOf N.Malformed = 0
+unfoldable pub orZero : Number → ℕ
+orZero (N.Is n) = n
+orZero N.Malformed = 0
 
 -- the number before the first space
 unfoldable pub numberIn : List ℕ → ℕ
-unfolding digitsOf spaceAt valueOf
-numberIn s = valueOf (digitsOf 0 (take (spaceAt s) s))
+unfolding digitsOf spaceAt orZero
+numberIn s = orZero (digitsOf 0 (take (spaceAt s) s))
 
 -- what stands behind the first space
 unfoldable pub behind : List ℕ → List ℕ
@@ -39,7 +39,7 @@ behind s = drop (spaceAt s + 1) s
 
 -- a figure of its number and its letter
 unfoldable pub figureIn : ℕ → ℕ → Figure
-figureIn n letter = record { value = n; estimated = eqb letter estimate }
+figureIn n letter = record { value = n; estimated = eqb letter letterE }
 
 -- the five figures, from the first of them on
 unfoldable pub figuresIn : List ℕ → Report
@@ -59,6 +59,6 @@ figuresIn s =
 
 -- a line, its LF among its bytes: "o" begins "ok", and any other byte "no"
 unfoldable pub readBack : List ℕ → Report
-unfolding figuresIn behind digitsOf valueOf
+unfolding figuresIn behind digitsOf orZero
 readBack s =
-    cond (eqb (getD s 0 0) 111) (figuresIn (behind s)) (number (valueOf (digitsOf 0 (take (length (behind s) - 1) (behind s)))))
+    cond (eqb (getD s 0 0) 111) (figuresIn (behind s)) (number (orZero (digitsOf 0 (take (length (behind s) - 1) (behind s)))))

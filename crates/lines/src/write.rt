@@ -1,41 +1,17 @@
 // An answer as a line of text, written into lent bytes: counted first, so that a line too long for
 // them changes none.
-use crate::Wrote;
+use lent::Wrote;
+use lent::put_text;
+use numerals::digits;
+use numerals::put_ended;
 use outcome::Completed;
 use outcome::Figure;
-use text::digits;
-use text::put_byte;
-use text::put_number;
+use refusals::TOO_LONG;
 ghost use mathlib.Core.Path.{_≡_};
 ghost use Prim.Native.Nat.{_+_, _≤_};
 ghost use lib.ListN.{length};
-ghost use Rattle.text.specs.Render.{Written};
-ghost use Rattle.lines.specs.Lines.{ended, letterOf, letters, okLine, noLine, LineWritten};
-
-// The refusal of a line that is longer than the lent bytes.
-pub const TOO_LONG: u32 = 16;
-
-// A text.
-fn put_text(out: &mut [u8], at: usize, s: &[u8]) -> usize
-    requires { ⌜ at + length (now s) ≤ length (now out) ⌝ }
-    ensures { λ r. ⌜ Written (now (out .entry)) at (now (s .entry)) r (now (out .exit)) ⌝ }
-{
-    let mut i = 0usize;
-    while i < s.len() {
-        out[at + i] = s[i];
-        i += 1;
-    }
-    at + i
-}
-
-// A number and the byte that ends it.
-pub fn put_ended(out: &mut [u8], at: usize, n: u64, end: u8) -> usize
-    requires { ⌜ at + length (ended n end) ≤ length (now out) ⌝ }
-    ensures { λ r. ⌜ Written (now (out .entry)) at (ended n end) r (now (out .exit)) ⌝ }
-{
-    let p = put_number(out, at, n);
-    put_byte(out, p, end)
-}
+ghost use Rattle.lent.specs.Lent.{Written, LentWritten};
+ghost use Rattle.lines.specs.Lines.{letterOf, letters, okLine, noLine};
 
 // The letter of a figure.
 fn letter_of(f: Figure) -> u8
@@ -105,9 +81,9 @@ fn ok_length(c: Completed) -> usize
         + 14
 }
 
-// The line of a completed request, or refusal 16.
+// The line of a completed request, or TOO_LONG.
 pub fn write_ok(out: &mut [u8], c: Completed) -> Wrote
-    ensures { λ r. ⌜ LineWritten (now (out .entry)) (okLine c) r (now (out .exit)) ⌝ }
+    ensures { λ r. ⌜ LentWritten (now (out .entry)) (okLine c) r (now (out .exit)) ⌝ }
 {
     if out.len() < ok_length(c) {
         return Wrote::Refused(TOO_LONG);
@@ -115,9 +91,9 @@ pub fn write_ok(out: &mut [u8], c: Completed) -> Wrote
     Wrote::To(put_ok(out, c))
 }
 
-// The line of a refusal, or refusal 16.
+// The line of a refusal, or TOO_LONG.
 pub fn write_no(out: &mut [u8], n: u32) -> Wrote
-    ensures { λ r. ⌜ LineWritten (now (out .entry)) (noLine n) r (now (out .exit)) ⌝ }
+    ensures { λ r. ⌜ LentWritten (now (out .entry)) (noLine n) r (now (out .exit)) ⌝ }
 {
     if out.len() < digits(n as u64) + 4 {
         return Wrote::Refused(TOO_LONG);

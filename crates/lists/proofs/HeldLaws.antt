@@ -9,6 +9,7 @@ use borrow.Author.Tests.{lt-ltb, le-ltb, ltb-true, ltb-false, ne-eqb}
 use lib.Dec.{ltb}
 use lib.ListN.{length, take, replicate, length-replicate}
 use lib.Seq.{length-take-le}
+use Rattle.refusals.specs.Order as No
 use Rattle.text.specs.Grammar.{longest}
 use Rattle.text.proofs.FieldLaws.{too-long}
 use Rattle.lines.specs.Lines.{noLine}
@@ -28,11 +29,11 @@ module _ (held : List ℕ) (count : ℕ) where
   unfolding heldLine
   held-whole h = rw (le-ltb longest count h)
 
--- a line too long gets 14
-pub over-answer : (sheet : Sheet) (s : List ℕ) → longest < length s → answerTo sheet s ≡ noLine 14
+-- a line too long is malformed
+pub over-answer : (sheet : Sheet) (s : List ℕ) → longest < length s → answerTo sheet s ≡ noLine No.malformed
 over-answer sheet s h = malformed-line sheet s (too-long s h)
 
-pub over-held : (sheet : Sheet) (held : List ℕ) (count : ℕ) → longest < count → answerTo sheet (heldLine held count) ≡ noLine 14
+pub over-held : (sheet : Sheet) (held : List ℕ) (count : ℕ) → longest < count → answerTo sheet (heldLine held count) ≡ noLine No.malformed
 over-held sheet held count h =
     ap (answerTo sheet) (held-over held count h)
     ∙ over-answer sheet (replicate (longest + 1) 0) (omega (arith, length-replicate {A = ℕ} (longest + 1) 0))
@@ -52,6 +53,6 @@ some-held r l h = go (ltb longest (r .count)) refl
         let k = ltb-false longest (r .count) e in
         omega (arith, ap length (held-whole (r .held) (r .count) k), length-take-le (r .count) (r .held) (omega arith))
 
-pub closing-some : (r : Reader) → length (r .held) ≡ longest → 0 < r .count → closing r ≡ noLine 14
+pub closing-some : (r : Reader) → length (r .held) ≡ longest → 0 < r .count → closing r ≡ noLine No.malformed
 unfolding closing ending
 closing-some r l h = rw (ne-eqb (length (lineIn r)) 0 (λ e. omega (arith, some-held r l h)))

@@ -1,5 +1,4 @@
 pub mod HeldLaws
-pub mod LentLaws
 pub mod PartLaws
 pub mod WholeList
 pub mod Progress

@@ -7,18 +7,18 @@ use native.Mathlib.Numerals.{add-one}
 use borrow.Author.Tests.{eq-eqb, ne-eqb, lt-ltb, le-ltb}
 use lib.ListN.{length, getD, take, drop, set, length-append, length-drop, length-set, drop-of-length-le}
 use lib.Seq.{drop-cons, drop-drop, length-take-le}
+use Rattle.lent.specs.declared.Wrote.the-variants as W
+use Rattle.lent.specs.Lent.{put, LentWritten}
+use Rattle.lent.proofs.PutLaws.{take-put, drop-put, length-put}
+use Rattle.lent.proofs.WroteLaws.{to-fits, refused-full, after-fits, after-full}
+use Rattle.lent.proofs.PartLaws.{givenBack, back-same, back-put, put-front}
+use Rattle.numerals.specs.Render.{lf}
 use Rattle.text.specs.Grammar.{longest}
-use Rattle.text.specs.Render.{put}
-use Rattle.text.proofs.PutLaws.{take-put, drop-put, length-put}
-use Rattle.lines.specs.declared.Wrote.the-variants as W
-use Rattle.lines.specs.Lines.{lf, LineWritten}
-use Rattle.lines.proofs.LineLaws.{to-fits, refused-full, after-fits, after-full}
 use Rattle.answer.specs.declared.Sheet.{Sheet}
 use Rattle.answer.specs.Sheets.{answerTo}
 use Rattle.lists.specs.declared.Reader.{Reader}
 use Rattle.lists.specs.declared.Taken.{Taken}
 use Rattle.lists.specs.Parts.{lineIn, fresh, grown, Stand, readFrom, PartTaken}
-use Rattle.lists.proofs.LentLaws.{givenBack, back-same, back-put, put-front}
 
 -- ---- what the reader makes of a part from a place on, by the byte at that place
 module _ (sheet : Sheet) (room : ℕ) (r : Reader) (text part : List ℕ) (i : ℕ) where
@@ -145,21 +145,21 @@ module _ {sheet : Sheet} {part out₀ : List ℕ} {r₀ r : Reader} {out : List 
           (omega (arith, length-drop i part))
 
       -- the answer is written into what is left of the lent bytes
-      pub line-answered : {x : List ℕ} (n : ℕ) → LineWritten (drop wrote out) line (W.To n) x
+      pub line-answered : {x : List ℕ} (n : ℕ) → LentWritten (drop wrote out) line (W.To n) x
           → Going sheet part out₀ r₀ (fresh r) (givenBack out wrote x) (wrote + n) (i + 1)
       line-answered {x} n w =
           let f = to-fits (length (drop wrote out)) line n (w .answer) in
-          let same : x ≡ put (drop wrote out) 0 line = w .bytes ∙ after-fits (drop wrote out) line (f .0) in
+          let same : x ≡ put (drop wrote out) 0 line = w .became ∙ after-fits (drop wrote out) line (f .0) in
           subst (λ (b : List ℕ). Going sheet part out₀ r₀ (fresh r) b (wrote + n) (i + 1)) (sym (ap (givenBack out wrote) same ∙ back-put out wrote line))
           (subst (λ (k : ℕ). Going sheet part out₀ r₀ (fresh r) (put out wrote line) (wrote + k) (i + 1)) (sym (f .1))
           (line-put (omega (arith, f .0, left-over, g .written))))
 
       -- or it is refused, and nothing has changed
-      pub line-refused : {x : List ℕ} (n : ℕ) → LineWritten (drop wrote out) line (W.Refused n) x
+      pub line-refused : {x : List ℕ} (n : ℕ) → LentWritten (drop wrote out) line (W.Refused n) x
           → PartTaken sheet r₀ part out₀ (record { reader = r; took = i; wrote = wrote }) (givenBack out wrote x)
       line-refused {x} n w =
           let h = refused-full (length (drop wrote out)) line n (w .answer) in
-          let same : x ≡ drop wrote out = w .bytes ∙ after-full (drop wrote out) line h in
+          let same : x ≡ drop wrote out = w .became ∙ after-full (drop wrote out) line h in
           subst (λ (b : List ℕ). PartTaken sheet r₀ part out₀ (record { reader = r; took = i; wrote = wrote }) b)
           (sym (ap (givenBack out wrote) same ∙ back-same out wrote))
           (line-full (omega (arith, left-over, g .written)))

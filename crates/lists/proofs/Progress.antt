@@ -8,7 +8,7 @@ use native.Mathlib.Omega.{arith}
 use borrow.Author.Tests.{ltb-true, ltb-false}
 use lib.Dec.{ltb, eqb}
 use lib.ListN.{length}
-use Rattle.lines.specs.Lines.{lf}
+use Rattle.numerals.specs.Render.{lf}
 use Rattle.answer.specs.declared.Sheet.{Sheet}
 use Rattle.answer.specs.Sheets.{answerTo, longestAnswer}
 use Rattle.answer.proofs.LongestAnswer.{answer-short}

@@ -12,7 +12,7 @@ use lib.Dec.{ltb, eqb}
 use lib.ListN.{length, set, length-replicate, length-append, length-set}
 use lib.Seq.{take-suc-set, length-take-le}
 use Rattle.text.specs.Grammar.{longest}
-use Rattle.lines.specs.Lines.{lf}
+use Rattle.numerals.specs.Render.{lf}
 use Rattle.answer.specs.declared.Sheet.{Sheet}
 use Rattle.answer.specs.Sheets.{answerTo}
 use Rattle.lists.specs.declared.Reader.{Reader}

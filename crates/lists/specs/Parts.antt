@@ -5,9 +5,9 @@ use mathlib.Core.Bool.{cond}
 use mathlib.Core.List.{List, [], _∷_, _++_}
 use lib.Dec.{eqb, ltb}
 use lib.ListN.{length, take, set, replicate}
+use Rattle.lent.specs.Lent.{put}
+use Rattle.numerals.specs.Render.{lf}
 use Rattle.text.specs.Grammar.{longest}
-use Rattle.text.specs.Render.{put}
-use Rattle.lines.specs.Lines.{lf}
 use Rattle.answer.specs.declared.Sheet.{Sheet}
 use Rattle.answer.specs.Sheets.{answerTo}
 use Rattle.lists.specs.declared.Reader.{Reader}
@@ -15,7 +15,7 @@ use Rattle.lists.specs.declared.Taken.{Taken}
 use Rattle.lists.specs.Whole.{ending}
 
 -- ---- the reader
--- the bytes of an unfinished line of count bytes; one that is too long is not held, and 101 zeros stand for it
+-- the bytes of an unfinished line of count bytes; one that is too long is not held, and zeros, one too many, stand for it
 unfoldable pub heldLine : List ℕ → ℕ → List ℕ
 heldLine held count = cond (ltb longest count) (replicate (longest + 1) 0) (take count held)
 

@@ -1,22 +1,22 @@
 // A list of requests read in parts, cut at any place: the answer to each whole line, as far as lent
 // bytes reach, and the unfinished line held from part to part.
-use answer::MALFORMED;
 use answer::Sheet;
 use answer::answer_line;
-use lines::Wrote;
+use lent::Wrote;
 use lines::write_no;
+use refusals::MALFORMED;
 use text::LONGEST;
 ghost use mathlib.Core.Path.{_≡_};
 ghost use lib.ListN.{length};
+ghost use Rattle.lent.specs.Lent.{LentWritten};
 ghost use Rattle.text.specs.Grammar.{longest};
-ghost use Rattle.lines.specs.Lines.{LineWritten};
 ghost use Rattle.answer.specs.Sheets.{answerTo};
 ghost use Rattle.lists.specs.Parts.{heldLine, newReader, closing, PartTaken};
 
 // An unfinished line: its first bytes, and how many it has. A count above LONGEST says that the line
 // is too long; its bytes are of no use then.
 pub struct Reader {
-    pub held: [u8; 100],
+    pub held: [u8; LONGEST],
     pub count: usize,
 }
 
@@ -32,17 +32,17 @@ pub struct Taken {
 pub fn new_reader() -> Reader
     ensures { λ r. ⌜ r ≡ newReader ⌝ }
 {
-    let held = [0u8; 100];
+    let held = [0u8; LONGEST];
     Reader {
         held: held,
         count: 0,
     }
 }
 
-// The answer to the line held, into `out`; or refusal 16.
+// The answer to the line held, into `out`; or TOO_LONG.
 fn answer_held(sheet: Sheet, held: &[u8], count: usize, out: &mut [u8]) -> Wrote
     requires { ⌜ length (now held) ≡ longest ⌝ }
-    ensures { λ r. ⌜ LineWritten (now (out .entry)) (answerTo sheet (heldLine (now (held .entry)) count)) r (now (out .exit)) ⌝ }
+    ensures { λ r. ⌜ LentWritten (now (out .entry)) (answerTo sheet (heldLine (now (held .entry)) count)) r (now (out .exit)) ⌝ }
 {
     if LONGEST < count {
         return write_no(out, MALFORMED);
@@ -96,10 +96,10 @@ pub fn take_part(sheet: Sheet, r: Reader, part: &[u8], out: &mut [u8]) -> Taken
     }
 }
 
-// Ends a list: an unfinished line is malformed. Its only refusal is 16, and then no byte of `out` has
-// changed.
+// Ends a list: an unfinished line is malformed. Its only refusal is TOO_LONG, and then no byte of
+// `out` has changed.
 pub fn close_list(r: Reader, out: &mut [u8]) -> Wrote
-    ensures { λ w. ⌜ LineWritten (now (out .entry)) (closing r) w (now (out .exit)) ⌝ }
+    ensures { λ w. ⌜ LentWritten (now (out .entry)) (closing r) w (now (out .exit)) ⌝ }
 {
     let count = r.count;
     if count == 0 {

@@ -79,18 +79,14 @@ pub fn value_of(f: Field) -> i64
     }
 }
 
-// The size of the number given, or 0. It has no bound to ask for: of the lowest i64, too, the size
-// is a u64.
+// The size of the number given, or 0.
 pub fn size_of(f: Field) -> u64
     ensures { λ r. ⌜ r ≡ sizeOf f ⌝ }
 {
     let Field::Given(v) = f else {
         return 0;
     };
-    if v < 0 {
-        return (0 - (v + 1)) as u64 + 1;
-    }
-    v as u64
+    sizes::size_of(v)
 }
 
 // The style that a rake stands for: both ranges are open.

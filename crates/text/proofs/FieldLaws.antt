@@ -9,11 +9,11 @@ use borrow.Author.Tests.{lt-ltb, le-ltb}
 use lib.Dec.{ltb}
 use lib.ListN.{length, take, drop, set, length-drop, drop-of-length-le}
 use lib.Seq.{drop-drop, set-split}
+use Rattle.lent.proofs.PartLaws.{rest}
 use Rattle.request.specs.declared.Field.{Field}
 use Rattle.text.specs.declared.figures.Word.the-variants as W
 use Rattle.text.specs.declared.read.Line.the-variants as L
 use Rattle.text.specs.Grammar.{longest, fieldOf, spaceAt, signedAt, inFront, fieldsOf, requestOf, toLine, lineOf}
-use Rattle.text.proofs.FigureLaws.{rest}
 
 -- the fields xs, and behind them those of r
 unfoldable pub prepend : List Field → Option (List Field) → Option (List Field)

@@ -2,7 +2,5 @@ pub mod NumberLaws
 pub mod FigureLaws
 pub mod SpaceLaws
 pub mod FieldLaws
-pub mod RenderLaws
-pub mod PutLaws
 pub mod RoundTrip
 mod LineExamples

@@ -8,8 +8,8 @@ use Rattle.request.specs.declared.Field.the-variants.{Given, Blank}
 use Rattle.request.specs.declared.Request.{Request}
 use Rattle.text.specs.declared.read.Line.{Line}
 use Rattle.text.specs.declared.read.Line.the-variants as L
-use Rattle.text.specs.Grammar.{isDigit, digitsOf, numberOf, plain, negative, figureOf, given, fieldOf, spaceAt, signedAt, inFront, fieldsOf, requestOf, toLine, lineOf}
-use Rattle.text.specs.Render.{ascii}
+use Rattle.text.specs.Grammar.{isDigit, digitsOf, unsignedOf, plain, negative, signedOf, asWord, fieldOf, spaceAt, signedAt, inFront, fieldsOf, requestOf, toLine, lineOf}
+use Rattle.numerals.specs.Render.{ascii}
 
 -- document 01's first line
 abbrev first : Request
@@ -87,5 +87,5 @@ examples :
     ∷ "650 0 760 - 10000 - 3000 4000 30 - - - 2000\r"
     ∷ [])
     ≡ true)
-unfolding isDigit digitsOf numberOf plain negative figureOf given fieldOf spaceAt signedAt inFront fieldsOf requestOf toLine lineOf ascii
+unfolding isDigit digitsOf unsignedOf plain negative signedOf asWord fieldOf spaceAt signedAt inFront fieldsOf requestOf toLine lineOf ascii
 examples = (refl, refl, refl)

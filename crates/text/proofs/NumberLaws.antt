@@ -11,7 +11,8 @@ use lib.Dec.{leb, ltb, eqb, lit<}
 use lib.ListN.{length, getD, drop, drop-of-length-le}
 use lib.Seq.{drop-cons}
 use Rattle.text.specs.declared.figures.Number.the-variants.{Is, Malformed}
-use Rattle.text.specs.Grammar.{digit0, digit9, isDigit, digitsOf, numberOf}
+use Rattle.numerals.specs.Render.{digit0, digit9}
+use Rattle.text.specs.Grammar.{isDigit, digitsOf, unsignedOf}
 
 module _ (n : ℕ) (s : List ℕ) (i : ℕ) where
   pub at-digit : i < length s → digit0 ≤ getD s i 0 → getD s i 0 ≤ digit9 → digitsOf n (drop i s) ≡ digitsOf (n * 10 + (getD s i 0 - digit0)) (drop (i + 1) s)
@@ -55,8 +56,8 @@ digits-lt n (c ∷ cs) v e = go (isDigit c) refl (digits-lt (n * 10 + (c - digit
     go false h ih g = let z : _≡_ {A = ℕ} 0 1 = cc in absurd (omega arith)
 
 -- and the number of a field is below a million
-pub number-lt : (s : List ℕ) (v : ℕ) → numberOf s ≡ Is v → v < 1000000
-unfolding numberOf
+pub number-lt : (s : List ℕ) (v : ℕ) → unsignedOf s ≡ Is v → v < 1000000
+unfolding unsignedOf
 number-lt s v e = go (eqb (length s) 0) (ltb 6 (length s)) (ltb 1 (length s) && eqb (getD s 0 0) digit0) refl e
   where
     go : (a b c : Bool) → ltb 6 (length s) ≡ b → cond (a || b || c) Malformed (digitsOf 0 s) ≡ Is v → v < 1000000

@@ -13,12 +13,13 @@ use lib.ListN.{length, getD, length-append, List·getD-append}
 use lib.Signed.{ltZ}
 use Rattle.request.specs.declared.Field.the-variants.{Given}
 use Rattle.text.specs.declared.figures.Number.the-variants as N
-use Rattle.text.specs.declared.figures.Figure.the-variants as F
+use Rattle.text.specs.declared.figures.Signed.the-variants as S
 use Rattle.text.specs.declared.figures.Word.the-variants as W
-use Rattle.text.specs.Grammar.{space, minus, digit0, digit9, isDigit, digitsOf, numberOf, plain, negative, figureOf, given, fieldOf, spaceAt}
-use Rattle.text.specs.Render.{render, renderSigned, signedOf}
+use Rattle.numerals.specs.Render.{space, minus, digit0, digit9}
+use Rattle.text.specs.Grammar.{isDigit, digitsOf, unsignedOf, plain, negative, signedOf, asWord, fieldOf, spaceAt, signedBack}
+use Rattle.numerals.specs.Render.{render, renderSigned}
 use Rattle.text.proofs.FigureLaws.{minus-taken, no-minus}
-use Rattle.text.proofs.RenderLaws.{by-tenths, render-one, render-more, length-one, length-more, length-render}
+use Rattle.numerals.proofs.RenderLaws.{by-tenths, render-one, render-more, length-one, length-more, length-render}
 
 -- ---- the digits of any number
 -- one digit more
@@ -78,8 +79,8 @@ module _ (n : ℕ) (small : n < 1000000) where
           let h : digit0 < getD (render n) 0 0 = no-leading-zero n (omega (arith, ltb-false n 10 e)) in
           rw (ne-eqb (getD (render n) 0 0) digit0 (λ q. omega arith)) (and-false (ltb 1 (length (render n))))
 
-  pub number-back : numberOf (render n) ≡ N.Is n
-  unfolding numberOf
+  pub number-back : unsignedOf (render n) ≡ N.Is n
+  unfolding unsignedOf
   number-back =
       rw (
         ne-eqb (length (render n)) 0 (λ q. omega (arith, some-digit n)),
@@ -88,7 +89,7 @@ module _ (n : ℕ) (small : n < 1000000) where
       ) (digits-back n)
 
 -- a figure of either sign, where a minus sign is allowed
-pub figure-back : (signed : Bool) (z : ℤ) → natAbs z < 1000000 → (ltZ z (pos 0) ≡ true → signed ≡ true) → figureOf signed (renderSigned z) ≡ F.Is z
+pub figure-back : (signed : Bool) (z : ℤ) → natAbs z < 1000000 → (ltZ z (pos 0) ≡ true → signed ≡ true) → signedOf signed (renderSigned z) ≡ S.Is z
 unfolding renderSigned plain negative
 figure-back signed (pos n) h k =
     no-minus signed (render n) (λ e. omega (arith, first-digit n)) ∙ ap plain (number-back n h)
@@ -103,12 +104,12 @@ not-blank (negsuc n) = rw (ne-eqb (suc (length (render (suc n)))) 1 (λ e. omega
 
 -- and so given as it was
 pub field-back : (signed : Bool) (z : ℤ) → natAbs z < 1000000 → (ltZ z (pos 0) ≡ true → signed ≡ true) → fieldOf signed (renderSigned z) ≡ W.Is (Given z)
-unfolding fieldOf given
+unfolding fieldOf asWord
 field-back signed z h k = rw (not-blank z, figure-back signed z h k)
 
 -- ---- a figure of any size
-pub signed-back : (z : ℤ) → signedOf (renderSigned z) ≡ F.Is z
-unfolding renderSigned signedOf plain negative
+pub signed-back : (z : ℤ) → signedBack (renderSigned z) ≡ S.Is z
+unfolding renderSigned signedBack plain negative
 signed-back (pos n) = rw (ne-eqb (getD (render n) 0 0) minus (λ e. omega (arith, first-digit n)), digits-back n)
 signed-back (negsuc n) = rw (digits-back (suc n))
 

@@ -6,7 +6,8 @@ use native.Mathlib.Numerals.{add-one}
 use borrow.Author.Tests.{eq-eqb, ne-eqb}
 use lib.ListN.{length, getD, drop, drop-of-length-le}
 use lib.Seq.{drop-cons}
-use Rattle.text.specs.Grammar.{space, spaceAt}
+use Rattle.numerals.specs.Render.{space}
+use Rattle.text.specs.Grammar.{spaceAt}
 
 module _ (s : List ℕ) (i : ℕ) where
   pub space-here : i < length s → getD s i 0 ≡ space → spaceAt (drop i s) ≡ 0

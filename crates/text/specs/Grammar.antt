@@ -7,33 +7,19 @@ use mathlib.Core.Option.{Option, none, some}
 use lib.Dec.{ltb, leb, eqb}
 use lib.IntN.{pos, negsuc}
 use lib.ListN.{length, getD, take, drop}
+use Rattle.refusals.specs.Order as No
 use Rattle.request.specs.declared.Field.{Field}
 use Rattle.request.specs.declared.Field.the-variants.{Given, Blank}
 use Rattle.request.specs.declared.Request.{Request}
+use Rattle.numerals.specs.Render.{space, minus, digit0, digit9}
 use Rattle.text.specs.declared.figures.Number.{Number}
 use Rattle.text.specs.declared.figures.Number.the-variants as N
-use Rattle.text.specs.declared.figures.Figure.{Figure}
-use Rattle.text.specs.declared.figures.Figure.the-variants as F
+use Rattle.text.specs.declared.figures.Signed.{Signed}
+use Rattle.text.specs.declared.figures.Signed.the-variants as S
 use Rattle.text.specs.declared.figures.Word.{Word}
 use Rattle.text.specs.declared.figures.Word.the-variants as W
 use Rattle.text.specs.declared.read.Line.{Line}
 use Rattle.text.specs.declared.read.Line.the-variants as L
-
--- the byte " "
-abbrev pub space : ℕ
-space = 32
-
--- the byte "-"
-abbrev pub minus : ℕ
-minus = 45
-
--- the byte "0"
-abbrev pub digit0 : ℕ
-digit0 = 48
-
--- the byte "9"
-abbrev pub digit9 : ℕ
-digit9 = 57
 
 -- ---- one field
 -- "0" to "9"
@@ -46,36 +32,36 @@ digitsOf n [] = N.Is n
 digitsOf n (c ∷ cs) = cond (isDigit c) (digitsOf (n * 10 + (c - digit0)) cs) N.Malformed
 
 -- a number has 1 to 6 digits, no leading zero (0 itself allowed)
-unfoldable pub numberOf : List ℕ → Number
-numberOf s =
+unfoldable pub unsignedOf : List ℕ → Number
+unsignedOf s =
     cond (eqb (length s) 0 || ltb 6 (length s) || ltb 1 (length s) && eqb (getD s 0 0) digit0) N.Malformed (digitsOf 0 s)
 
 -- the number as it stands
-unfoldable pub plain : Number → Figure
-plain (N.Is n) = F.Is (pos n)
-plain N.Malformed = F.Malformed
+unfoldable pub plain : Number → Signed
+plain (N.Is n) = S.Is (pos n)
+plain N.Malformed = S.Malformed
 
 -- the number after a minus sign: never "-0"
-unfoldable pub negative : Number → Figure
-negative (N.Is zero) = F.Malformed
-negative (N.Is (suc n)) = F.Is (negsuc n)
-negative N.Malformed = F.Malformed
+unfoldable pub negative : Number → Signed
+negative (N.Is zero) = S.Malformed
+negative (N.Is (suc n)) = S.Is (negsuc n)
+negative N.Malformed = S.Malformed
 
 -- a number, after a minus sign where the field may have one
-unfoldable pub figureOf : Bool → List ℕ → Figure
-figureOf signed s = cond (eqb (getD s 0 0) minus) (cond signed (negative (numberOf (drop 1 s))) F.Malformed) (plain (numberOf s))
+unfoldable pub signedOf : Bool → List ℕ → Signed
+signedOf signed s = cond (eqb (getD s 0 0) minus) (cond signed (negative (unsignedOf (drop 1 s))) S.Malformed) (plain (unsignedOf s))
 
--- a figure is given
-unfoldable pub given : Figure → Word
-given (F.Is v) = W.Is (Given v)
-given F.Malformed = W.Malformed
+-- such a number is given
+unfoldable pub asWord : Signed → Word
+asWord (S.Is v) = W.Is (Given v)
+asWord S.Malformed = W.Malformed
 
 -- blank is one "-"
 unfoldable pub fieldOf : Bool → List ℕ → Word
-fieldOf signed s = cond (eqb (length s) 1 && eqb (getD s 0 0) minus) (W.Is Blank) (given (figureOf signed s))
+fieldOf signed s = cond (eqb (length s) 1 && eqb (getD s 0 0) minus) (W.Is Blank) (asWord (signedOf signed s))
 
 -- ---- the line
--- a line is at most 100 bytes before its LF
+-- the most bytes that a line has before its LF
 abbrev pub longest : ℕ
 longest = 100
 
@@ -133,3 +119,13 @@ toLine none = L.Malformed
 -- the line: twelve fields with a space after each, and a thirteenth
 unfoldable pub lineOf : List ℕ → Line
 lineOf s = cond (ltb longest (length s)) L.Malformed (toLine (fieldsOf 12 0 s))
+
+-- the refusal's number, 0 for none
+abbrev pub numberOf : Line → ℕ
+numberOf (L.Is r) = 0
+numberOf L.Malformed = No.malformed
+
+-- ---- read back
+-- a number of either sign, whatever its size
+unfoldable pub signedBack : List ℕ → Signed
+signedBack s = cond (eqb (getD s 0 0) minus) (negative (digitsOf 0 (drop 1 s))) (plain (digitsOf 0 s))

@@ -3,7 +3,7 @@ use request::Field;
 ghost use mathlib.Core.Path.{_≡_};
 ghost use Prim.Native.Nat.{_≤_};
 ghost use lib.ListN.{length};
-ghost use Rattle.text.specs.Grammar.{digitsOf, numberOf, figureOf, fieldOf};
+ghost use Rattle.text.specs.Grammar.{digitsOf, unsignedOf, signedOf, fieldOf};
 
 // What digits stand for.
 pub enum Number {
@@ -12,7 +12,7 @@ pub enum Number {
 }
 
 // What a number with or without a minus sign stands for.
-pub enum Figure {
+pub enum Signed {
     Is(i64),
     Malformed,
 }
@@ -46,7 +46,7 @@ fn read_digits(s: &[u8]) -> Number
 
 // A number: one to six digits with no leading zero.
 fn read_number(s: &[u8]) -> Number
-    ensures { λ r. ⌜ r ≡ numberOf (now (s .entry)) ⌝ }
+    ensures { λ r. ⌜ r ≡ unsignedOf (now (s .entry)) ⌝ }
 {
     let n = s.len();
     if n == 0 {
@@ -64,27 +64,27 @@ fn read_number(s: &[u8]) -> Number
 }
 
 // A number, after a minus sign where the field may have one. There is no "-0".
-fn read_figure(s: &[u8], signed: bool) -> Figure
-    ensures { λ r. ⌜ r ≡ figureOf signed (now (s .entry)) ⌝ }
+fn read_signed(s: &[u8], signed: bool) -> Signed
+    ensures { λ r. ⌜ r ≡ signedOf signed (now (s .entry)) ⌝ }
 {
     if s.len() == 0 {
-        return Figure::Malformed;
+        return Signed::Malformed;
     }
     if s[0] == b'-' {
         if !signed {
-            return Figure::Malformed;
+            return Signed::Malformed;
         }
         let Number::Is(n) = read_number(&s[1..]) else {
-            return Figure::Malformed;
+            return Signed::Malformed;
         };
         if n == 0 {
-            return Figure::Malformed;
+            return Signed::Malformed;
         }
-        return Figure::Is(0 - (n as i64));
+        return Signed::Is(0 - (n as i64));
     }
     match read_number(s) {
-        Number::Is(n) => Figure::Is(n as i64),
-        Number::Malformed => Figure::Malformed,
+        Number::Is(n) => Signed::Is(n as i64),
+        Number::Malformed => Signed::Malformed,
     }
 }
 
@@ -97,8 +97,8 @@ pub fn read_field(s: &[u8], signed: bool) -> Word
             return Word::Is(Field::Blank);
         }
     }
-    match read_figure(s, signed) {
-        Figure::Is(v) => Word::Is(Field::Given(v)),
-        Figure::Malformed => Word::Malformed,
+    match read_signed(s, signed) {
+        Signed::Is(v) => Word::Is(Field::Given(v)),
+        Signed::Malformed => Word::Malformed,
     }
 }

@@ -6,7 +6,7 @@ use borrow.Author.Needs.{needs}
 use denote.Ref.{now}
 use lib.ListN.{length}
 use lib.Seq.{length-take-le}
-use Rattle.lines.proofs.LineLaws.{to-fits}
+use Rattle.lent.proofs.WroteLaws.{to-fits}
 use Rattle.lists.specs.Parts.{closing}
 use Rattle.filter.proofs.end_list.Statement.{statement}
 use Rattle.filter.proofs.end_list.Tie as tie

@@ -1,8 +1,8 @@
--- A list that ends in LF, or has no byte, is owed nothing more; an unfinished line gets 14. Assumes nothing.
+-- A list that ends in LF, or has no byte, is owed nothing more; an unfinished line is malformed. Assumes nothing.
 use borrow.Author.Needs.{needs}
 use native.Mathlib.Omega.{arith}
 use denote.Ref.{now}
-use Rattle.lines.proofs.LineLaws.{nothing-written}
+use Rattle.lent.proofs.WroteLaws.{nothing-written}
 use Rattle.lists.proofs.HeldLaws.{closing-none, closing-some}
 use Rattle.lists.proofs.close_list.Statement.{statement}
 use Rattle.lists.proofs.close_list.Tie as tie

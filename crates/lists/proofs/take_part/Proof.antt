@@ -6,9 +6,9 @@ use native.Mathlib.Omega.{arith}
 use borrow.Author.Needs.{needs}
 use denote.Ref.{now}
 use lib.ListN.{length, drop, length-drop}
-use Rattle.text.proofs.FigureLaws.{rest}
-use Rattle.lines.specs.Lines.{LineWritten}
-use Rattle.lines.proofs.LineLaws.{to-fits}
+use Rattle.lent.specs.Lent.{LentWritten}
+use Rattle.lent.proofs.WroteLaws.{to-fits}
+use Rattle.lent.proofs.PartLaws.{rest}
 use Rattle.answer.specs.Sheets.{answerTo}
 use Rattle.lists.specs.Parts.{heldLine}
 use Rattle.lists.proofs.PartLaws.{Going, begins, ends, byte-held, byte-over, line-answered, line-refused}
@@ -62,7 +62,7 @@ line l = answerTo (l .before .before .before .before .args .sheet) (heldLine (l 
 answered :
     (c : tie.After-answer-held Inv-loop μ-loop)
     → let l = c .before .before .before .before .before .before in
-    LineWritten (drop (l .loop .wrote) (l .loop .out)) (line l) (c .answer-held .result) (c .answer-held .last .1 .1 .1 .0)
+    LentWritten (drop (l .loop .wrote) (l .loop .out)) (line l) (c .answer-held .result) (c .answer-held .last .1 .1 .1 .0)
 answered c =
     let l = c .before .before .before .before .before .before in
     rw (rest (l .loop .out) (l .loop .wrote)) at (c .answer-held .ensures)

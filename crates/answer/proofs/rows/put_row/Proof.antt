@@ -8,10 +8,9 @@ use mir.Facts.{toZ-ofZ}
 use mir.Val.{SFits}
 use mir.Syntax.{w64}
 use Rattle.model.specs.declared.Shown.{Shown}
-use Rattle.text.specs.Grammar.{space}
-use Rattle.text.specs.Render.{renderSigned, Written}
-use Rattle.text.proofs.PutLaws.{shorter, room-after, then}
-use Rattle.lines.specs.Lines.{lf, ended}
+use Rattle.lent.specs.Lent.{Written}
+use Rattle.lent.proofs.PutLaws.{shorter, room-after, then}
+use Rattle.numerals.specs.Render.{lf, space, renderSigned, ended}
 use Rattle.answer.specs.RowLines.{rowLine}
 use Rattle.answer.proofs.rows.put_row.Statement.{statement}
 use Rattle.answer.proofs.rows.put_row.Tie as tie

@@ -4,22 +4,23 @@ use Prim.Native.Nat.{_-_, _≤_}
 use mathlib.Core.Path.{_≡_, refl}
 use native.Mathlib.Omega.{arith}
 use lib.ListN.{length}
-use Rattle.text.specs.Render.{Written}
-use Rattle.lines.proofs.LineLaws.{put-nothing}
+use Rattle.tables.specs.Tables.{measures}
+use Rattle.lent.specs.Lent.{Written}
+use Rattle.lent.proofs.PutLaws.{put-nothing}
 use Rattle.answer.specs.RowLines.{rowLines}
 use Rattle.answer.proofs.RowLaws.{row-room, row-then}
 use Rattle.answer.proofs.rows.put_rows.Statement.{statement}
 use Rattle.answer.proofs.rows.put_rows.Tie as tie
 
 abbrev Inv-loop : tie.InvT-loop
-Inv-loop out₀ rows at₀ k₀ out at k = (k ≤ 24) × (length out ≡ length out₀) × Written out₀ 0 (rowLines k rows) at out
+Inv-loop out₀ rows at₀ k₀ out at k = (k ≤ measures) × (length out ≡ length out₀) × Written out₀ 0 (rowLines k rows) at out
 
 abbrev μ-loop : tie.MeasureT-loop
-μ-loop out₀ rows at₀ k₀ out at k = 24 - k
+μ-loop out₀ rows at₀ k₀ out at k = measures - k
 
 loop-holds : tie.Need-loop-holds Inv-loop μ-loop
 unfolding rowLines
-loop-holds c = (omega arith, refl, record { place = refl; bytes = put-nothing _ 0 })
+loop-holds c = (omega arith, refl, record { place = refl; became = put-nothing _ 0 })
 
 mul-put-row : tie.Need-mul-put-row Inv-loop μ-loop
 mul-put-row c = omega arith
@@ -57,7 +58,7 @@ same-length c = search needs
 returns : tie.Need-returns Inv-loop μ-loop
 returns c =
     let l = c .before in
-    let e : l .loop .k ≡ 24 = omega arith in
+    let e : l .loop .k ≡ measures = omega arith in
     rw e at (l .loop .inv .2)
 
 pub put-rows-spec : {M : Type 1} → statement M

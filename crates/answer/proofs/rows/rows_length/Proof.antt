@@ -4,16 +4,17 @@ use Prim.Native.Nat.{_-_, _*_, _≤_}
 use mathlib.Core.Path.{_≡_, refl}
 use native.Mathlib.Omega.{arith}
 use lib.ListN.{length}
+use Rattle.tables.specs.Tables.{measures}
 use Rattle.answer.specs.RowLines.{rowLines}
 use Rattle.answer.proofs.RowLaws.{length-next}
 use Rattle.answer.proofs.rows.rows_length.Statement.{statement}
 use Rattle.answer.proofs.rows.rows_length.Tie as tie
 
 abbrev Inv-loop : tie.InvT-loop
-Inv-loop rows n₀ i₀ n i = (i ≤ 24) × (n ≤ 85 * i) × (n ≡ length (rowLines i rows))
+Inv-loop rows n₀ i₀ n i = (i ≤ measures) × (n ≤ 85 * i) × (n ≡ length (rowLines i rows))
 
 abbrev μ-loop : tie.MeasureT-loop
-μ-loop rows n₀ i₀ n i = 24 - i
+μ-loop rows n₀ i₀ n i = measures - i
 
 loop-holds : tie.Need-loop-holds Inv-loop μ-loop
 unfolding rowLines
@@ -45,7 +46,7 @@ loop-again c =
 returns : tie.Need-returns Inv-loop μ-loop
 returns c =
     let l = c .before in
-    let e : l .loop .i ≡ 24 = omega arith in
+    let e : l .loop .i ≡ measures = omega arith in
     rw e at (l .loop .inv .2)
 
 pub rows-length-spec : {M : Type 1} → statement M

@@ -2,7 +2,8 @@
 use borrow.Author.Needs.{needs}
 use native.Mathlib.Omega.{arith}
 use denote.Ref.{now}
-use Rattle.lines.proofs.LineLaws.{refuses, writes}
+use Rattle.tables.specs.Tables.{measures}
+use Rattle.lent.proofs.WroteLaws.{refuses, writes}
 use Rattle.answer.specs.RowLines.{rowLines}
 use Rattle.answer.proofs.RowLaws.{refused-line, good-lines}
 use Rattle.answer.proofs.rows.write_spectrum.Statement.{statement}
@@ -30,7 +31,7 @@ returns-2 c =
     let t = n .before .before in
     let s = t .before .before in
     rw (good-lines (s .args .s) (t .if1 .left))
-    (refuses (now (s .args .out)) (rowLines 24 (s .args .s .rows)) (omega (arith, n .rows-length .ensures, c .if2 .taken)))
+    (refuses (now (s .args .out)) (rowLines measures (s .args .s .rows)) (omega (arith, n .rows-length .ensures, c .if2 .taken)))
 
 put-rows-requires : tie.Need-put-rows-requires
 put-rows-requires c κs = search needs

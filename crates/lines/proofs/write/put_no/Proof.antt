@@ -5,9 +5,10 @@ use mathlib.Core.List.{_++_}
 use native.Mathlib.Omega.{arith}
 use denote.Ref.{now}
 use lib.ListN.{length}
-use Rattle.text.specs.Render.{ascii, Written}
-use Rattle.text.proofs.PutLaws.{shorter, room-after, then}
-use Rattle.lines.specs.Lines.{lf, ended, noLine}
+use Rattle.lent.specs.Lent.{Written}
+use Rattle.lent.proofs.PutLaws.{shorter, room-after, then}
+use Rattle.numerals.specs.Render.{lf, ascii, ended}
+use Rattle.lines.specs.Lines.{noLine}
 use Rattle.lines.proofs.write.put_no.Statement.{statement}
 use Rattle.lines.proofs.write.put_no.Tie as tie
 

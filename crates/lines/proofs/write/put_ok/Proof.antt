@@ -6,8 +6,9 @@ use native.Mathlib.Omega.{arith}
 use denote.Ref.{now}
 use lib.ListN.{length}
 use Rattle.outcome.specs.declared.Completed.{Completed}
-use Rattle.text.specs.Render.{ascii, Written}
-use Rattle.text.proofs.PutLaws.{shorter, room-after, then}
+use Rattle.lent.specs.Lent.{Written}
+use Rattle.lent.proofs.PutLaws.{shorter, room-after, then}
+use Rattle.numerals.specs.Render.{ascii}
 use Rattle.lines.specs.Lines.{spaced, letters, okLine}
 use Rattle.lines.proofs.write.put_ok.Statement.{statement}
 use Rattle.lines.proofs.write.put_ok.Tie as tie

@@ -4,8 +4,9 @@ use Prim.Native.Nat.{_≤_}
 use native.Mathlib.Omega.{arith}
 use denote.Ref.{now}
 use lib.ListN.{length}
+use Rattle.lent.proofs.WroteLaws.{refuses, writes}
 use Rattle.lines.specs.Lines.{noLine}
-use Rattle.lines.proofs.LineLaws.{length-no, refuses, writes}
+use Rattle.lines.proofs.LineLaws.{length-no}
 use Rattle.lines.proofs.write.write_no.Statement.{statement}
 use Rattle.lines.proofs.write.write_no.Tie as tie
 

@@ -2,8 +2,8 @@
 use borrow.Author.Needs.{needs}
 use native.Mathlib.Omega.{arith}
 use denote.Ref.{now}
+use Rattle.lent.proofs.WroteLaws.{refuses, writes}
 use Rattle.lines.specs.Lines.{okLine}
-use Rattle.lines.proofs.LineLaws.{refuses, writes}
 use Rattle.lines.proofs.write.write_ok.Statement.{statement}
 use Rattle.lines.proofs.write.write_ok.Tie as tie
 

@@ -1,4 +1,4 @@
--- One "-" is blank, and what is not is the figure that `read_figure` found. Assumes nothing.
+-- One "-" is blank, and what is not is the figure that `read_signed` found. Assumes nothing.
 use borrow.Author.Needs.{needs}
 use borrow.Author.Tests.{eq-eqb, ne-eqb}
 use mathlib.Core.Path.{_≡_, sym, ap, _∙_}
@@ -11,7 +11,8 @@ use mir.Syntax.{w64}
 use mir.Val.{SFits}
 use mir.Facts.{toZ-ofZ}
 use Rattle.request.proofs.Tests.{and-no}
-use Rattle.text.specs.Grammar.{minus, given, fieldOf}
+use Rattle.numerals.specs.Render.{minus}
+use Rattle.text.specs.Grammar.{asWord, fieldOf}
 use Rattle.text.proofs.figures.read_field.Statement.{statement}
 use Rattle.text.proofs.figures.read_field.Tie as tie
 
@@ -22,8 +23,8 @@ returns : tie.Need-returns
 unfolding fieldOf
 returns c = rw (eq-eqb _ _ (c .before .before .if1 .taken), eq-eqb _ _ (c .if2 .taken))
 
-read-figure-requires : tie.Need-read-figure-requires
-read-figure-requires c κs = search needs
+read-signed-requires : tie.Need-read-signed-requires
+read-signed-requires c κs = search needs
 
 enum-known-v : tie.Need-enum-known-v
 enum-known-v c = search needs
@@ -42,22 +43,22 @@ not-blank c =
     (λ w. inr (ne-eqb (length s) 1 (w .left)))
     (c .if1 .came))
 
-figure : (c : tie.After-read-figure) →
+figure : (c : tie.After-read-signed) →
     let a = c .before .before .before .args in
-    fieldOf (a .signed) (now (a .s)) ≡ given (c .read-figure .result)
+    fieldOf (a .signed) (now (a .s)) ≡ asWord (c .read-signed .result)
 unfolding fieldOf
-figure c = rw (not-blank (c .before), c .read-figure .ensures)
+figure c = rw (not-blank (c .before), c .read-signed .ensures)
 
 v-fits : (c : tie.After-known-told) → SFits w64 (c .before .v .given .0 .0)
 v-fits c = record { sfits = c .known-told .given .0 .1 }
 
 returns-2 : tie.Need-returns-2
-unfolding given
-returns-2 c = simp (toZ-ofZ (v-fits c)) (sym (figure (c .before .before .before) ∙ ap given (c .before .v .given .1)))
+unfolding asWord
+returns-2 c = simp (toZ-ofZ (v-fits c)) (sym (figure (c .before .before .before) ∙ ap asWord (c .before .v .given .1)))
 
 returns-3 : tie.Need-returns-3
-unfolding given
-returns-3 c = sym (figure (c .before .before) ∙ ap given (c .enum-told .given .1))
+unfolding asWord
+returns-3 c = sym (figure (c .before .before) ∙ ap asWord (c .enum-told .given .1))
 
 pub read-field-spec : {M : Type 1} → statement M
 read-field-spec =
@@ -65,7 +66,7 @@ read-field-spec =
     (tie.spec
     shared-slice-read-if2
     returns
-    read-figure-requires
+    read-signed-requires
     enum-known-v
     enum-told
     returns-2

@@ -9,16 +9,17 @@ use denote.Ref.{now}
 use lib.Dec.{ltb, eqb}
 use lib.ListN.{length, getD}
 use Rattle.request.proofs.Tests.{and-no}
-use Rattle.text.specs.Grammar.{digit0, numberOf}
+use Rattle.numerals.specs.Render.{digit0}
+use Rattle.text.specs.Grammar.{unsignedOf}
 use Rattle.text.proofs.figures.read_number.Statement.{statement}
 use Rattle.text.proofs.figures.read_number.Tie as tie
 
 returns : tie.Need-returns
-unfolding numberOf
+unfolding unsignedOf
 returns c = rw (eq-eqb _ _ (c .if1 .taken))
 
 returns-2 : tie.Need-returns-2
-unfolding numberOf
+unfolding unsignedOf
 returns-2 c =
     let s = now (c .before .before .before .args .s) in
     rw (ne-eqb _ _ (c .before .if1 .left), lt-ltb 6 (length s) (omega (arith, c .if2 .taken)))
@@ -27,7 +28,7 @@ shared-slice-read-if4 : tie.Need-shared-slice-read-if4
 shared-slice-read-if4 c = search needs
 
 returns-3 : tie.Need-returns-3
-unfolding numberOf
+unfolding unsignedOf
 returns-3 c =
     let t = c .before .before in
     rw (
@@ -52,7 +53,7 @@ no-leading-zero c =
     (c .if3 .came))
 
 returns-4 : tie.Need-returns-4
-unfolding numberOf
+unfolding unsignedOf
 returns-4 c =
     let j = c .before in
     rw (ne-eqb _ _ (j .before .before .if1 .left), le-ltb _ _ (j .before .if2 .left), no-leading-zero j) (c .read-digits .ensures)
