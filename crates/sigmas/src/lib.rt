@@ -1,6 +1,6 @@
 // The sigmas (14 to 18), from variances in units of 10^-9. Each function equals a definition of model's
 // specs/Fixed.
-mod fixed;
+mod rows;
 
 use reckon::E9;
 use reckon::mul_div;
@@ -37,7 +37,7 @@ pub struct Settled {
 pub fn all_settled() -> [Settled; 24]
     ensures { λ r. ⌜ r ≡ map settledOf table3 ⌝ }
 {
-    fixed::ROWS
+    rows::ROWS
 }
 
 // A deviation of Table 3 squared, in units of 10^-9.
