@@ -1,6 +1,5 @@
 -- What nearness of signed numbers means, and how it is widened and chained. Assumes nothing.
 use Prim.Native.Nat.{ℕ, _+_, _*_, _≤_}
-use mathlib.Core.Path.{_≡_}
 use native.Mathlib.Omega.{arith}
 use native.Mathlib.Nat.{mul-le-mul-right, add-mul}
 use lib.IntN.{ℤ, pos, natAbs, _-ℤ_, _*ℤ_}
