@@ -1,5 +1,5 @@
 -- A ln median in range, and its nearest millionth, fit 64 bits. Assumes nothing.
-use Prim.Native.Nat.{_≤_, _<_}
+use Prim.Native.Nat.{_≤_}
 use native.Mathlib.Omega.{arith}
 use native.Mathlib.Nat.{le-trans}
 use lib.Dec.{lit≤}

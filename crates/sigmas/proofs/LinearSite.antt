@@ -1,5 +1,5 @@
 -- The steps of the intra-event variance, and a linear site: with alpha 0 nothing is added to s², and its root is s. Assumes nothing.
-use Prim.Native.Nat.{ℕ, _+_, _*_, _/_, _≤_, _<_}
+use Prim.Native.Nat.{ℕ, _+_, _*_, _/_, _<_}
 use mathlib.Core.Path.{_≡_, refl, sym, ap, _∙_}
 use native.Mathlib.Omega.{arith}
 use native.Mathlib.Nat.{le-refl, mul-zero, zero-mul, mul-mul-mul-comm, add-mul, mul-add, mul-one, one-mul}

@@ -9,7 +9,7 @@ use tables::Deviations;
 ghost use mathlib.Core.Path.{_≡_};
 ghost use mathlib.Core.List.{map};
 ghost use Prim.Native.Nat.{_≤_};
-ghost use lib.IntN.{pos, natAbs};
+ghost use lib.IntN.{natAbs};
 ghost use Rattle.exact.specs.Near.{up};
 ghost use Rattle.tables.specs.Tables.{table3};
 ghost use Rattle.model.specs.Fixed.{squaredFixed, crossFixed, intraVarianceFixed, sigmaOf};

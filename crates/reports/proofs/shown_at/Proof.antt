@@ -1,6 +1,6 @@
 -- The measure's own row of Table 3, and its fine row, which is in range. Assumes nothing.
 use borrow.Author.Needs.{needs}
-use mathlib.Core.Path.{_≡_, sym, ap, subst, _∙_}
+use mathlib.Core.Path.{sym, ap, subst, _∙_}
 use Rattle.tables.proofs.RowsRead.{of-deviations, read-3}
 use Rattle.model.specs.declared.Fine.{Fine}
 use Rattle.model.specs.Accuracy.{FineInRange}

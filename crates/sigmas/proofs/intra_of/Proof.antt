@@ -1,6 +1,6 @@
 -- The root of s² is s. Assumes nothing.
-use Prim.Native.Nat.{_≤_, _*_}
-use mathlib.Core.Path.{_≡_, sym, ap, _∙_}
+use Prim.Native.Nat.{_≤_}
+use mathlib.Core.Path.{sym, ap, _∙_}
 use native.Mathlib.Omega.{arith}
 use borrow.Author.Needs.{needs}
 use Rattle.model.specs.Fixed.{sigmaOf}

@@ -1,5 +1,4 @@
 -- A deviation of at most 1000 has a square that fits. Assumes nothing.
-use Prim.Native.Nat.{_*_, _≤_}
 use native.Mathlib.Omega.{arith}
 use native.Mathlib.Nat.{mul-le-mul}
 use borrow.Author.Needs.{needs}

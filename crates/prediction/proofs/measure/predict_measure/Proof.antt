@@ -1,13 +1,12 @@
 -- A refused completion hands its number on, before the measure's number is looked at; what is shown of a measure is small enough to be
 -- converted. Assumes nothing.
 use borrow.Author.Needs.{needs}
-use mathlib.Core.Path.{_≡_, sym, ap, subst, _∙_}
+use mathlib.Core.Path.{_≡_, sym, subst, _∙_}
 use native.Mathlib.Omega.{arith}
 use Rattle.outcome.specs.declared.Completion.the-variants as C
 use Rattle.outcome.specs.Answers.{completionOf}
 use Rattle.model.specs.Accuracy.{InRange}
 use Rattle.model.specs.Fixed.{rowFixed}
-use Rattle.prediction.specs.declared.measure.OneMeasure.the-variants as M
 use Rattle.prediction.specs.Measures.{shownValue}
 use Rattle.prediction.proofs.Completed.{in-range}
 use Rattle.prediction.proofs.RowLaws.{fixed-small, refused-by}

@@ -1,5 +1,5 @@
 -- The ln median of PGA at 1100 m/s lies in the exponential's range. Assumes nothing.
-use Prim.Native.Nat.{_/_, _≤_, _<_}
+use Prim.Native.Nat.{_≤_}
 use mathlib.Core.Path.{_≡_, ap, _∙_}
 use native.Mathlib.Omega.{arith}
 use native.Mathlib.Nat.{le-trans}
