@@ -1,6 +1,6 @@
 #!/usr/bin/env python3
 """Alters one number at a time, in one place at a time, and shows that the gate's steps refuse or notice it: each coefficient of Tables 2
-and 3 and each limit of the refusals, in the code, in the specs and in the second program.
+and 3 and each limit of the refusals, in the code, in the specs and in the second program; each refusal's own number in the specs.
 
     python3 tamper/sweep.py [--sample N] [--seed S] [--jobs J] [--places code,specs,second]
 
@@ -35,6 +35,7 @@ PLACES = [
     ("code", "crates/site_stage/src/lib.rt", re.compile(r"if !is_allowed\(|if 10000 < "), "site_stage"),
     ("code", "crates/request/src/lib.rt", re.compile(r"=> is_within\(f, "), "request"),
     ("specs", "crates/tables/specs/Tables.antt", re.compile(r"^    row[23] "), "tables"),
+    ("specs", "crates/refusals/specs/Order.antt", re.compile(r"^\w+ = \d+$"), "refusals"),
     ("specs", "crates/outcome/specs/Refusals.antt", re.compile(r"\((pos|negsuc) \d+\)|ltb \d+ \(|\.value\) 90"), "completion"),
     ("specs", "crates/request/specs/Styles.antt", re.compile(r"^topMagnitude \w+ = pos "), "completion"),
     ("second", "second/model.c", re.compile(r"^    \{-?\d"), None),

@@ -6,7 +6,7 @@ use Rattle.request.specs.declared.Field.the-variants.{Blank}
 use Rattle.request.specs.declared.Request.{Request}
 use Rattle.request.specs.Fields.{sizeOf, valueOf}
 use Rattle.geometry.specs.Fixed.{ruptureDistance}
-use Rattle.outcome.specs.Figures.{figureOf, style, dip, width, zhypOf, zhyp, ztor, rrup, basinOf, z25}
+use Rattle.outcome.specs.Figures.{figureOf, style, dip, width, zhyp, ztor, rrup, z25}
 
 module _ (r s : Request) where
   pub dip-alone : r .dip ≡ Blank → s .dip ≡ Blank → r .rake ≡ s .rake → dip r ≡ dip s

@@ -1,7 +1,7 @@
 -- Of every accepted request, each figure that was estimated lies within 2 m of the exact value at the figures completed before it.
 -- Assumes nothing.
 use Prim.Native.Nat.{ℕ, _+_, _*_, _≤_}
-use mathlib.Core.Path.{_≡_, sym, ap, subst}
+use mathlib.Core.Path.{_≡_}
 use lib.IntN.{pos}
 use Rattle.exact.specs.Near.{NearZ}
 use Rattle.exact.specs.Exact.{E30}
@@ -10,7 +10,6 @@ use Rattle.request.specs.declared.Field.the-variants.{Blank}
 use Rattle.request.specs.declared.Request.{Request}
 use Rattle.request.specs.Fields.{sizeOf, valueOf}
 use Rattle.rules.specs.Rules.{widthE, topE, basinE}
-use Rattle.rules.proofs.Figures as F
 use Rattle.rules.proofs.WidthNear.{widthFixed-near}
 use Rattle.rules.proofs.TopNear.{topFixed-near}
 use Rattle.rules.proofs.BasinNear.{basinFixed-near}
@@ -18,8 +17,7 @@ use Rattle.geometry.specs.Geometry.{ruptureDistanceE}
 use Rattle.geometry.specs.Fixed.{RuptureInRange}
 use Rattle.geometry.proofs.Reported.{reported-near, reported-above}
 use Rattle.outcome.specs.Figures.{figureOf, style, dip, width, zhyp, ztor, rrup, basinOf, z25}
-use Rattle.refusals.specs.Order.{first}
-use Rattle.outcome.specs.Refusals.{sourceRows, pathGiven, pathRows, refusal}
+use Rattle.outcome.specs.Refusals.{pathGiven, pathRows, refusal}
 use Rattle.refusals.proofs.Rows.{first-both}
 use Rattle.outcome.proofs.Ranges.{source-range, source-given, top-range, path-range}
 use Rattle.outcome.proofs.ExactlyWhen.{path-numbered, stages}

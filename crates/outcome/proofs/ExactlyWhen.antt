@@ -6,7 +6,6 @@ use mathlib.Core.List.{_++_}
 use mathlib.Core.Logic.{_↔_}
 use lib.Dec.{T}
 use Rattle.request.specs.declared.Request.{Request}
-use Rattle.outcome.specs.declared.Completion.{Completion}
 use Rattle.outcome.specs.declared.Completion.the-variants as C
 use Rattle.refusals.specs.Order.{first, Fires, Silent, InOrder}
 use Rattle.refusals.specs.Order as No

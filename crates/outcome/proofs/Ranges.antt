@@ -1,15 +1,16 @@
 -- What an accepted stage says of its figures: each lies in its range, given or completed. Assumes nothing.
-use Prim.Native.Nat.{ℕ, _+_, _*_, _≤_}
+use Prim.Native.Nat.{ℕ, _≤_}
 use mathlib.Core.Path.{_≡_, refl, subst}
 use mathlib.Core.Bool.{Bool, true, false, not, _&&_}
-use mathlib.Core.List.{[], _∷_}
+use mathlib.Core.List.{[]}
 use native.Mathlib.Omega.{arith}
-use native.Mathlib.Nat.{le-trans}
-use lib.Dec.{T, lit≤, ltb}
+use lib.Dec.{T, lit≤}
 use lib.IntN.{ℤ, pos, negsuc, natAbs}
 use lib.Signed.{leZ}
+use mir.Syntax.{w64}
+use mir.Val.{SFits}
 use borrow.Author.Tests.{not-false, ltb-false}
-use Rattle.exact.proofs.Signed.{by-sign, abs-parts, le-parts}
+use Rattle.exact.proofs.Signed.{by-sign, abs-parts, le-parts, sfits-abs}
 use Rattle.request.specs.declared.Field.{Field}
 use Rattle.request.specs.declared.Field.the-variants.{Given, Blank}
 use Rattle.request.specs.declared.Style.{Style}
@@ -17,12 +18,11 @@ use Rattle.request.specs.declared.Style.the-variants.{StrikeSlip, Reverse, Norm
 use Rattle.request.specs.declared.Request.{Request}
 use Rattle.request.specs.Fields.{within, allowed, sizeOf, valueOf}
 use Rattle.request.specs.Styles.{topMagnitude}
-use Rattle.rules.proofs.Figures as F
 use Rattle.rules.proofs.Ranges.{dipOf-range, hypocentre-top}
 use Rattle.rules.proofs.WidthNear.{widthFixed-near}
-use Rattle.outcome.specs.Figures.{figureOf, style, dip, width, zhypOf, zhyp, ztor, rrup, z25}
+use Rattle.outcome.specs.Figures.{figureOf, style, dip, width, zhypOf, zhyp, ztor, rrup}
 use Rattle.refusals.specs.Order.{first}
-use Rattle.outcome.specs.Refusals.{sourceGiven, sourceRows, pathGiven, pathRows, siteGiven, aboveRupture, tooShort}
+use Rattle.outcome.specs.Refusals.{sourceGiven, sourceRows, pathGiven, pathRows, siteGiven}
 use Rattle.refusals.proofs.Rows.{clear, first-both}
 
 -- ---- one field
@@ -75,6 +75,10 @@ signed-size (Given v) e =
     let high = le-parts v (pos 180) (t .1) in
     by-sign v (λ h. omega (arith, abs-parts v, high)) (λ h. omega (arith, abs-parts v, low))
 signed-size Blank e = omega arith
+
+-- so that it fits an i64
+pub angle-fits : (z v : ℤ) → z ≡ v → natAbs v ≤ 180 → SFits w64 z
+angle-fits z v e h = sfits-abs z (rw e (omega arith))
 
 -- ---- the source
 pub record SourceRange (r : Request) : Type 0 where

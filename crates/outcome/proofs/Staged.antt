@@ -1,10 +1,10 @@
 -- From the rows of a stage to its answer, and from the three answers to the whole. Assumes nothing.
 use Prim.Native.Nat.{ℕ, zero, suc, _≤_, _<_}
 use mathlib.Core.Path.{_≡_, refl, sym, ap, _∙_}
-use mathlib.Core.Bool.{Bool, true, false}
+use mathlib.Core.Bool.{true, false}
 use mathlib.Core.List.{[], _∷_, _++_}
 use native.Mathlib.Omega.{arith}
-use lib.Dec.{T, ltb}
+use lib.Dec.{T}
 use borrow.Author.Tests.{lt-ltb, le-ltb}
 use Rattle.request.specs.declared.Request.{Request}
 use Rattle.outcome.specs.declared.Figure.{Figure}
@@ -16,7 +16,7 @@ use Rattle.outcome.specs.Figures.{ztor, rrup, z25}
 use Rattle.refusals.specs.Order.{Rows, first}
 use Rattle.refusals.specs.Order as No
 use Rattle.outcome.specs.Refusals.{sourceGiven, sourceCompleted, sourceRows, tooShort, pathGiven, pathCompleted, pathRows, siteGiven, siteCompleted, siteRows, rows, refusal}
-use Rattle.outcome.specs.Answers.{sourceFigures, sourceAnswer, sourceAnswerOf, figureAnswer, pathAnswerOf, siteAnswerOf, completed, answer, completionOf}
+use Rattle.outcome.specs.Answers.{sourceFigures, sourceAnswer, sourceAnswerOf, figureAnswer, pathAnswerOf, siteAnswerOf, answer, completionOf}
 use Rattle.refusals.proofs.Rows.{numbered, nothing, skip, holds, passes, three, first-after, first-before}
 use Rattle.outcome.proofs.ExactlyWhen.{source-numbered, path-numbered, all-path-numbered}
 

@@ -8,7 +8,7 @@ use lib.IntN.{pos, negsuc}
 use Rattle.refusals.specs.Order.{Rows, first}
 use Rattle.refusals.specs.Order as No
 use Rattle.request.specs.declared.Request.{Request}
-use Rattle.request.specs.Fields.{within, allowed, isBlank, sizeOf, valueOf}
+use Rattle.request.specs.Fields.{within, allowed, isBlank, sizeOf}
 use Rattle.request.specs.Styles.{topMagnitude}
 use Rattle.outcome.specs.Figures.{style, dip, ztor, rrup, z25}
 

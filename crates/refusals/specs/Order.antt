@@ -1,7 +1,7 @@
 -- The refusals by name, the order in which they are tested, and what it means that one of them is the first. Document 01's table, from
 -- the top; no other file of the specs has their numbers. Definitions only.
 use Prim.Native.Nat.{ℕ}
-use mathlib.Core.Bool.{Bool, true, false, not, cond, _&&_}
+use mathlib.Core.Bool.{Bool, true, false, cond, _&&_}
 use mathlib.Core.List.{List, [], _∷_}
 use lib.Dec.{T, eqb}
 
@@ -113,11 +113,6 @@ from n (m ∷ rest) = cond (eqb n m) (m ∷ rest) (from n rest)
 abbrev pub some : List ℕ → Bool
 some [] = false
 some (n ∷ rest) = true
-
--- no number stands in a list twice
-abbrev pub apart : List ℕ → Bool
-apart [] = true
-apart (n ∷ rest) = not (some (from n rest)) && apart rest
 
 -- each row's number stands in the list, not before that of the row above it
 abbrev pub follows : List ℕ → Rows → Bool

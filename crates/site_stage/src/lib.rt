@@ -12,7 +12,7 @@ use request::size_of;
 ghost use mathlib.Core.Path.{_≡_};
 ghost use Prim.Native.Nat.{_≤_};
 ghost use Rattle.request.specs.Fields.{sizeOf};
-ghost use Rattle.outcome.specs.Figures.{figureOf, basinOf, z25};
+ghost use Rattle.outcome.specs.Figures.{basinOf, z25};
 ghost use Rattle.refusals.specs.Order.{first};
 ghost use Rattle.outcome.specs.Refusals.{sourceRows, siteGiven};
 ghost use Rattle.outcome.specs.Answers.{siteAnswerOf};

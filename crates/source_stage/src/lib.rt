@@ -18,7 +18,7 @@ use request::style_by_rake;
 ghost use mathlib.Core.Path.{_≡_};
 ghost use Prim.Native.Nat.{_*_, _≤_, _<_};
 ghost use Rattle.request.specs.Fields.{sizeOf};
-ghost use Rattle.rules.specs.Rules.{dipOf, hypocentre};
+ghost use Rattle.rules.specs.Rules.{dipOf};
 ghost use Rattle.rules.specs.Fixed.{widthFixed, topFixed};
 ghost use Rattle.outcome.specs.Figures.{figureOf, zhypOf};
 ghost use Rattle.refusals.specs.Order.{first};

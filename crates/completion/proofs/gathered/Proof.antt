@@ -1,16 +1,9 @@
 -- Each figure is the request's own or that of its stage; the angles of an accepted request fit an i64. Assumes nothing.
 use borrow.Author.Needs.{needs}
-use Prim.Native.Nat.{_≤_}
-use mathlib.Core.Path.{_≡_}
-use native.Mathlib.Omega.{arith}
-use lib.IntN.{ℤ, natAbs}
 use mir.Facts.{toZ-ofZ}
-use mir.Syntax.{w64}
-use mir.Val.{SFits}
-use Rattle.exact.proofs.Signed.{sfits-abs}
 use Rattle.outcome.specs.Answers.{sourceFigures, completed}
 use Rattle.outcome.proofs.ExactlyWhen.{stages}
-use Rattle.outcome.proofs.Ranges.{source-range, source-given, path-range, path-given}
+use Rattle.outcome.proofs.Ranges.{angle-fits, source-range, source-given, path-range, path-given}
 use Rattle.completion.proofs.gathered.Statement.{statement}
 use Rattle.completion.proofs.gathered.Tie as tie
 
@@ -28,9 +21,6 @@ size-of-requires-3 c κs = search needs
 
 value-of-requires-2 : tie.Need-value-of-requires-2
 value-of-requires-2 c κs = search needs
-
-angle-fits : (z v : ℤ) → z ≡ v → natAbs v ≤ 180 → SFits w64 z
-angle-fits z v e h = sfits-abs z (rw e (omega arith))
 
 returns : tie.Need-returns
 unfolding completed sourceFigures

@@ -3,7 +3,6 @@ use borrow.Author.Needs.{needs}
 use mathlib.Core.Path.{_≡_, refl, sym, ap, _∙_}
 use native.Mathlib.Omega.{arith}
 use Rattle.outcome.specs.declared.FigureAnswer.the-variants as F
-use Rattle.outcome.specs.Figures.{rrup}
 use Rattle.refusals.specs.Order.{first}
 use Rattle.outcome.specs.Refusals.{pathGiven}
 use Rattle.outcome.specs.Answers.{sourceFigures}

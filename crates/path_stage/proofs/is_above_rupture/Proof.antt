@@ -1,8 +1,8 @@
 -- Each test that fails is a part of the condition that is false; the last is the rest of it. Assumes nothing.
 use borrow.Author.Needs.{needs}
 use borrow.Author.Tests.{lt-ltb, le-ltb}
-use mathlib.Core.Path.{_≡_, ap, sym, _∙_}
-use mathlib.Core.Bool.{Bool, true, false}
+use mathlib.Core.Path.{_≡_, sym, _∙_}
+use mathlib.Core.Bool.{true, false}
 use lib.Dec.{ltb}
 use Prim.Native.Nat.{_≤_}
 use Rattle.request.proofs.Tests.{wrong, right}

@@ -1,16 +1,12 @@
 -- The lengths are small enough for their squares, and the test is that of the definition. Assumes nothing.
 use borrow.Author.Needs.{needs}
-use Prim.Native.Nat.{ℕ, _+_, _*_, _≤_}
-use mathlib.Core.Path.{_≡_, sym}
-use mathlib.Core.Bool.{false}
+use Prim.Native.Nat.{ℕ, _*_, _≤_}
+use mathlib.Core.Path.{sym}
 use native.Mathlib.Nat.{mul-le-mul, lt-of-le-of-lt}
 use native.Mathlib.Omega.{arith}
 use lib.Dec.{lit<}
-use borrow.Author.Tests.{not-true}
 use mir.Syntax.{w64}
 use mir.Val.{Fits}
-use Rattle.request.specs.Fields.{isBlank, sizeOf}
-use Rattle.outcome.specs.Figures.{ztor}
 use Rattle.outcome.specs.Refusals.{tooShort}
 use Rattle.path_stage.proofs.is_too_short.Statement.{statement}
 use Rattle.path_stage.proofs.is_too_short.Tie as tie

@@ -1,16 +1,12 @@
 -- By whether RRUP is given; the figures before it are in their ranges. Assumes nothing.
-use Rattle.exact.proofs.Signed.{sfits-abs}
-use lib.IntN.{ℤ, natAbs}
-use native.Mathlib.Omega.{arith}
 use mir.Syntax.{w64}
 use mir.Val.{SFits}
 use borrow.Author.Needs.{needs}
-use mathlib.Core.Path.{_≡_, ap, _∙_}
+use mathlib.Core.Path.{_∙_}
 use mir.Facts.{toZ-ofZ}
-use Rattle.geometry.specs.Fixed.{RuptureInRange}
 use Rattle.outcome.specs.Figures.{figureOf, rrup}
 use Rattle.outcome.specs.Answers.{sourceFigures}
-use Rattle.outcome.proofs.Ranges.{source-range, source-given, top-range, path-range}
+use Rattle.outcome.proofs.Ranges.{angle-fits, source-range, source-given, top-range, path-range}
 use Rattle.path_stage.proofs.known_path.Statement.{statement}
 use Rattle.path_stage.proofs.known_path.Tie as tie
 
@@ -52,8 +48,7 @@ rupture-distance-requires c κs = let s = c .before .before .before .before .bef
 azimuth-fits : (c : tie.After-value-of) → SFits w64 (c .value-of .result)
 azimuth-fits c =
     let s = c .before .before .before in
-    sfits-abs (c .value-of .result)
-    (rw (c .value-of .ensures) (omega (arith, path-range (s .args .r) (s .pre .2) .azimuth-size)))
+    angle-fits (c .value-of .result) _ (c .value-of .ensures) (path-range (s .args .r) (s .pre .2) .azimuth-size)
 
 returns-2 : tie.Need-returns-2
 unfolding rrup figureOf sourceFigures

@@ -1,10 +1,8 @@
 -- The stage goes by its rows. Assumes nothing.
 use borrow.Author.Needs.{needs}
-use Prim.Native.Nat.{_≤_, _<_}
-use mathlib.Core.Path.{_≡_, sym, ap, _∙_}
+use mathlib.Core.Path.{_≡_, ap, _∙_}
 use native.Mathlib.Omega.{arith}
 use Rattle.outcome.specs.declared.FigureAnswer.the-variants as F
-use Rattle.outcome.specs.Figures.{z25}
 use Rattle.refusals.specs.Order.{first}
 use Rattle.outcome.specs.Refusals.{siteGiven}
 use Rattle.outcome.proofs.Staged.{site-refused, site-deep, site-known}

@@ -1,8 +1,7 @@
 -- By whether Z2.5 is given; the depths that were are in their ranges. Assumes nothing.
 use borrow.Author.Needs.{needs}
-use mathlib.Core.Path.{_≡_, ap, _∙_}
-use Rattle.request.specs.Fields.{sizeOf}
-use Rattle.outcome.specs.Figures.{figureOf, basinOf, z25}
+use mathlib.Core.Path.{_∙_}
+use Rattle.outcome.specs.Figures.{figureOf, z25}
 use Rattle.outcome.proofs.Ranges.{source-range, source-given, site-range}
 use Rattle.site_stage.proofs.known_site.Statement.{statement}
 use Rattle.site_stage.proofs.known_site.Tie as tie

@@ -1,9 +1,8 @@
 -- The stage goes by its rows. Assumes nothing.
 use borrow.Author.Needs.{needs}
-use mathlib.Core.Path.{_≡_, sym, ap, _∙_}
+use mathlib.Core.Path.{_≡_, ap, _∙_}
 use native.Mathlib.Omega.{arith}
 use Rattle.outcome.specs.declared.SourceAnswer.the-variants as S
-use Rattle.outcome.specs.Figures.{ztor}
 use Rattle.refusals.specs.Order.{first}
 use Rattle.outcome.specs.Refusals.{sourceGiven}
 use Rattle.outcome.specs.Answers.{sourceFigures}

@@ -3,12 +3,11 @@ use borrow.Author.Needs.{needs}
 use Prim.Native.Nat.{ℕ}
 use mathlib.Core.Path.{_≡_, ap, ap₂, _∙_}
 use Rattle.request.specs.declared.Style.{Style}
-use Rattle.request.specs.Fields.{sizeOf}
 use Rattle.rules.specs.Rules.{dipOf}
-use Rattle.rules.specs.Fixed.{widthFixed, topFixed}
+use Rattle.rules.specs.Fixed.{widthFixed}
 use Rattle.outcome.specs.Figures.{figureOf, style, dip, width, zhypOf, zhyp, ztor}
 use Rattle.outcome.specs.Answers.{sourceFigures}
-use Rattle.outcome.proofs.Ranges.{SourceRange, source-range}
+use Rattle.outcome.proofs.Ranges.{source-range}
 use Rattle.source_stage.proofs.known_source.Statement.{statement}
 use Rattle.source_stage.proofs.known_source.Tie as tie
 
