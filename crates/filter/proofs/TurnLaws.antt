@@ -1,0 +1,136 @@
+-- The reader from part to part and from block to block: what it leaves of a part it would take next, and after all of some bytes it is
+-- the same however they were cut. Assumes nothing.
+use Prim.Native.Nat.{ℕ, _+_, _≤_}
+use mathlib.Core.Path.{_≡_, refl, sym, ap, _∙_}
+use mathlib.Core.Bool.{Bool, true, false, cond}
+use mathlib.Core.List.{List, [], _∷_, _++_}
+use native.Mathlib.Nat.{zero-add}
+use native.Mathlib.Omega.{arith}
+use lib.Dec.{eqb, ltb}
+use lib.ListN.{length, take, drop, length-append}
+use lib.Seq.{drop-at}
+use Rattle.text.specs.Render.{put}
+use Rattle.text.proofs.PutLaws.{take-put}
+use Rattle.lines.specs.Lines.{lf}
+use Rattle.lines.specs.declared.Wrote.the-variants as W
+use Rattle.lines.specs.Lines.{LineWritten}
+use Rattle.lines.proofs.LineLaws.{to-fits, after-fits}
+use Rattle.answer.specs.declared.Sheet.{Sheet}
+use Rattle.answer.specs.Sheets.{answerTo}
+use Rattle.lists.specs.declared.Reader.{Reader}
+use Rattle.lists.specs.declared.Taken.{Taken}
+use Rattle.lists.specs.Parts.{lineIn, fresh, grown, Stand, readFrom, PartTaken}
+use Rattle.lists.proofs.Progress.{wrote-fits}
+use Rattle.lists.specs.Parts.{newReader}
+use Rattle.filter.specs.declared.State.{State}
+use Rattle.filter.specs.declared.State.the-variants as S
+use Rattle.filter.specs.declared.Turn.{Turn}
+use Rattle.filter.specs.Turns.{readerAfter, turn, BlockTurn, ReadTurn, ListTurn}
+
+-- ---- bytes cut in two
+pub after-append : (r : Reader) (a b : List ℕ) → readerAfter r (a ++ b) ≡ readerAfter (readerAfter r a) b
+unfolding readerAfter
+after-append r [] b = refl
+after-append r (c ∷ cs) b = go (eqb c lf) (after-append (fresh r) cs b) (after-append (grown r c) cs b)
+  where
+    go : (t : Bool)
+        → readerAfter (fresh r) (cs ++ b) ≡ readerAfter (readerAfter (fresh r) cs) b
+        → readerAfter (grown r c) (cs ++ b) ≡ readerAfter (readerAfter (grown r c) cs) b
+        → cond t (readerAfter (fresh r) (cs ++ b)) (readerAfter (grown r c) (cs ++ b))
+        ≡ readerAfter (cond t (readerAfter (fresh r) cs) (readerAfter (grown r c) cs)) b
+    go true f g = f
+    go false f g = g
+
+-- ---- a text written first in lent bytes stands there
+first : (b s : List ℕ) → length s ≤ length b → take (length s) (put b 0 s) ≡ s
+first b s h = ap (λ (n : ℕ). take n (put b 0 s)) (sym (zero-add (length s))) ∙ take-put b 0 s (omega arith)
+
+pub line-stands : {b s b₁ : List ℕ} {n : ℕ} → LineWritten b s (W.To n) b₁ → take n b₁ ≡ s
+line-stands {b} {s} {b₁} {n} w =
+    let f = to-fits (length b) s n (w .answer) in
+    ap (λ (k : ℕ). take k b₁) (f .1) ∙ ap (take (length s)) (w .bytes ∙ after-fits b s (f .0)) ∙ first b s (f .0)
+
+-- ---- a part, of which the reader leaves what does not fit
+-- what stands before the bytes left, and the reader after these too
+record Left (part : List ℕ) (last : Reader) (p : Stand) : Type 0 where
+  front : List ℕ
+  whole : front ++ p .left ≡ part
+  same : readerAfter (p .reader) (p .left) ≡ last
+
+module _ (sheet : Sheet) (room : ℕ) where
+  leaves : (r : Reader) (text part : List ℕ) → Left part (readerAfter r part) (readFrom sheet room r text part)
+  unfolding readFrom readerAfter
+  leaves r text [] = record { front = []; whole = refl; same = refl }
+  leaves r text (c ∷ cs) =
+      go (eqb c lf) (ltb room (length (text ++ answerTo sheet (lineIn r)))) refl (leaves (fresh r) (text ++ answerTo sheet (lineIn r)) cs) (leaves (grown r c) text cs)
+    where
+      go : (a b : Bool) → eqb c lf ≡ a
+          → Left cs (readerAfter (fresh r) cs) (readFrom sheet room (fresh r) (text ++ answerTo sheet (lineIn r)) cs)
+          → Left cs (readerAfter (grown r c) cs) (readFrom sheet room (grown r c) text cs)
+          → Left (c ∷ cs) (cond a (readerAfter (fresh r) cs) (readerAfter (grown r c) cs))
+          (cond a (cond b (record { reader = r; text = text; left = c ∷ cs }) (readFrom sheet room (fresh r) (text ++ answerTo sheet (lineIn r)) cs))
+          (readFrom sheet room (grown r c) text cs))
+      go true true e f g = record { front = []; whole = refl; same = rw e }
+      go true false e f g = record { front = c ∷ f .front; whole = ap (λ (l : List ℕ). c ∷ l) (f .whole); same = f .same }
+      go false b e f g = record { front = c ∷ g .front; whole = ap (λ (l : List ℕ). c ∷ l) (g .whole); same = g .same }
+
+module _ {sheet : Sheet} {r : Reader} {part b : List ℕ} {t : Taken} {b₁ : List ℕ} (p : PartTaken sheet r part b t b₁) where
+  abbrev stand : Stand
+  stand = readFrom sheet (length b) r [] part
+
+  left-over : stand .left ≡ drop (t .took) part
+  left-over =
+      let l = leaves sheet (length b) r [] part in
+      sym (drop-at (l .front) (stand .left) (t .took) (omega (arith, p .took, ap length (l .whole), length-append (l .front) (stand .left))))
+      ∙ ap (drop (t .took)) (l .whole)
+
+  -- the bytes not taken make of the reader what the part would have made
+  pub goes-on : readerAfter (t .reader) (drop (t .took) part) ≡ readerAfter r part
+  goes-on =
+      ap (λ (q : Reader). readerAfter q (drop (t .took) part)) (p .reader)
+      ∙ ap (readerAfter (stand .reader)) (sym left-over)
+      ∙ leaves sheet (length b) r [] part .same
+
+  -- what stands first in the lent bytes is the text
+  pub answers-stand : length b₁ ≡ length b → take (t .wrote) b₁ ≡ readFrom sheet (length b₁) r [] part .text
+  answers-stand e =
+      ap (λ (n : ℕ). take n b₁) (p .wrote)
+      ∙ ap (take (length (stand .text))) (p .bytes)
+      ∙ first b (stand .text) (omega (arith, p .wrote, wrote-fits p))
+      ∙ ap (λ (n : ℕ). readFrom sheet n r [] part .text) (sym e)
+
+-- ---- from turn to turn
+-- a turn takes some bytes or none
+record Some (r : Reader) (t : Turn) : Type 0 where
+  bytes : List ℕ
+  reader : t .reader ≡ readerAfter r bytes
+
+none : (r : Reader) (s : State) → Some r (turn r s)
+unfolding readerAfter
+none r s = record { bytes = []; reader = refl }
+
+of-block : {r : Reader} {block : List ℕ} {t : Turn} → BlockTurn r block t → Some r t
+of-block {r} {block} BlockTurn.answered = record { bytes = block; reader = refl }
+of-block {r} BlockTurn.unwritten = none r S.Unwritten
+
+of-read : {r : Reader} {t : Turn} → ReadTurn r t → Some r t
+of-read (ReadTurn.some block t b) = of-block b
+of-read {r} ReadTurn.ended = none r S.Ended
+of-read {r} ReadTurn.unread = none r S.Unread
+
+pub begun : (r : Reader) (s : State) → r ≡ newReader → ListTurn (turn r s)
+unfolding readerAfter
+begun r s e = record { list = []; reader = e }
+
+-- the list so far, and what the turn took
+pub next-turn : {r : Reader} {s : State} {t : Turn} → ListTurn (turn r s) → ReadTurn r t → ListTurn t
+next-turn l t =
+    let m = of-read t in
+    record {
+      list = l .list ++ m .bytes;
+      reader = m .reader ∙ ap (λ (q : Reader). readerAfter q (m .bytes)) (l .reader) ∙ sym (after-append newReader (l .list) (m .bytes));
+    }
+
+-- the same reader, however far the run has come
+pub same-reader : {t : Turn} (s : State) → ListTurn t → ListTurn (turn (t .reader) s)
+same-reader s l = record { list = l .list; reader = l .reader }
