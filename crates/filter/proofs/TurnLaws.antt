@@ -1,14 +1,18 @@
 -- The reader from part to part and from block to block: what it leaves of a part it would take next, and after all of some bytes it is
 -- the same however they were cut. Assumes nothing.
-use Prim.Native.Nat.{ℕ, _+_, _≤_}
+use Prim.Native.Nat.{ℕ, zero, suc, _+_, _≤_}
 use mathlib.Core.Path.{_≡_, refl, sym, ap, _∙_}
 use mathlib.Core.Bool.{Bool, true, false, cond}
 use mathlib.Core.List.{List, [], _∷_, _++_}
 use native.Mathlib.Nat.{zero-add}
 use native.Mathlib.Omega.{arith}
 use lib.Dec.{eqb, ltb}
+use lib.IntN.{ℤ, pos, negsuc}
+use lib.Signed.{ltZ}
 use lib.ListN.{length, take, drop, length-append}
 use lib.Seq.{drop-at}
+use Rattle.io.specs.Counts.{clamped}
+use Rattle.exact.proofs.Signed.{lt-parts, nlt-parts}
 use Rattle.text.specs.Render.{put}
 use Rattle.text.proofs.PutLaws.{take-put}
 use Rattle.lines.specs.Lines.{lf}
@@ -25,7 +29,7 @@ use Rattle.lists.specs.Parts.{newReader}
 use Rattle.filter.specs.declared.State.{State}
 use Rattle.filter.specs.declared.State.the-variants as S
 use Rattle.filter.specs.declared.Turn.{Turn}
-use Rattle.filter.specs.Turns.{readerAfter, turn, BlockTurn, ReadTurn, ListTurn}
+use Rattle.filter.specs.Turns.{readerAfter, turn, BlockTurn, ReadTurn, Took}
 
 -- ---- bytes cut in two
 pub after-append : (r : Reader) (a b : List ℕ) → readerAfter r (a ++ b) ≡ readerAfter (readerAfter r a) b
@@ -99,38 +103,48 @@ module _ {sheet : Sheet} {r : Reader} {part b : List ℕ} {t : Taken} {b₁ : Li
       ∙ first b (stand .text) (omega (arith, p .wrote, wrote-fits p))
       ∙ ap (λ (n : ℕ). readFrom sheet n r [] part .text) (sym e)
 
--- ---- from turn to turn
--- a turn takes some bytes or none
-record Some (r : Reader) (t : Turn) : Type 0 where
-  bytes : List ℕ
-  reader : t .reader ≡ readerAfter r bytes
+-- ---- what `read` answered
+module _ (r : Reader) (input : List ℕ) where
+  pub unread : (got : ℤ) → ltZ got (pos 0) ≡ true → ReadTurn got r input (turn r S.Unread)
+  unread (pos n) e = absurd (omega (arith, lt-parts (pos n) (pos 0) e))
+  unread (negsuc n) e = refl
 
-none : (r : Reader) (s : State) → Some r (turn r s)
+  pub ended : (got : ℤ) → ltZ got (pos 0) ≡ false → ltZ (pos 0) got ≡ false → ReadTurn got r input (turn r S.Ended)
+  ended (pos zero) e f = refl
+  ended (pos (suc n)) e f = absurd (omega (arith, nlt-parts (pos 0) (pos (suc n)) f))
+  ended (negsuc n) e f = absurd (omega (arith, nlt-parts (negsuc n) (pos 0) e))
+
+  pub some-read : (got : ℤ) {t : Turn} → ltZ (pos 0) got ≡ true → BlockTurn r (take (clamped got (length input)) input) t → ReadTurn got r input t
+  some-read (pos zero) e b = absurd (omega (arith, lt-parts (pos 0) (pos 0) e))
+  some-read (pos (suc n)) e b = b
+  some-read (negsuc n) e b = absurd (omega (arith, lt-parts (pos 0) (negsuc n) e))
+
+-- ---- from turn to turn
+none : (r : Reader) (s : State) → Took r (turn r s)
 unfolding readerAfter
 none r s = record { bytes = []; reader = refl }
 
-of-block : {r : Reader} {block : List ℕ} {t : Turn} → BlockTurn r block t → Some r t
+of-block : {r : Reader} {block : List ℕ} {t : Turn} → BlockTurn r block t → Took r t
 of-block {r} {block} BlockTurn.answered = record { bytes = block; reader = refl }
 of-block {r} BlockTurn.unwritten = none r S.Unwritten
 
-of-read : {r : Reader} {t : Turn} → ReadTurn r t → Some r t
-of-read (ReadTurn.some block t b) = of-block b
-of-read {r} ReadTurn.ended = none r S.Ended
-of-read {r} ReadTurn.unread = none r S.Unread
+pub of-read : (got : ℤ) {r : Reader} (input : List ℕ) {t : Turn} → ReadTurn got r input t → Took r t
+of-read (negsuc k) {r} input e = rw e (none r S.Unread)
+of-read (pos zero) {r} input e = rw e (none r S.Ended)
+of-read (pos (suc k)) input b = of-block b
 
-pub begun : (r : Reader) (s : State) → r ≡ newReader → ListTurn (turn r s)
+pub begun : (r : Reader) (s : State) → r ≡ newReader → Took newReader (turn r s)
 unfolding readerAfter
-begun r s e = record { list = []; reader = e }
+begun r s e = record { bytes = []; reader = e }
 
--- the list so far, and what the turn took
-pub next-turn : {r : Reader} {s : State} {t : Turn} → ListTurn (turn r s) → ReadTurn r t → ListTurn t
-next-turn l t =
-    let m = of-read t in
+-- the list so far, and what a turn took
+pub next-turn : {first r : Reader} {s : State} {t : Turn} → Took first (turn r s) → Took r t → Took first t
+next-turn {first} l m =
     record {
-      list = l .list ++ m .bytes;
-      reader = m .reader ∙ ap (λ (q : Reader). readerAfter q (m .bytes)) (l .reader) ∙ sym (after-append newReader (l .list) (m .bytes));
+      bytes = l .bytes ++ m .bytes;
+      reader = m .reader ∙ ap (λ (q : Reader). readerAfter q (m .bytes)) (l .reader) ∙ sym (after-append first (l .bytes) (m .bytes));
     }
 
 -- the same reader, however far the run has come
-pub same-reader : {t : Turn} (s : State) → ListTurn t → ListTurn (turn (t .reader) s)
-same-reader s l = record { list = l .list; reader = l .reader }
+pub same-reader : {first : Reader} {t : Turn} (s : State) → Took first t → Took first (turn (t .reader) s)
+same-reader s l = record { bytes = l .bytes; reader = l .reader }

@@ -1,6 +1,6 @@
 -- The output of a program as a whole. Assumes nothing.
 use Prim.Native.Nat.{ℕ}
-use mathlib.Core.Path.{_≡_, refl, ap}
+use mathlib.Core.Path.{_≡_, ap}
 use mathlib.Core.List.{List, [], _++_, append-nil}
 use Rattle.answer.specs.declared.Sheet.{Sheet}
 use Rattle.lists.specs.Parts.{newReader}

@@ -1,12 +1,14 @@
 -- How far a run has come, turn by turn, and the status that it ends with. Definitions only.
-use Prim.Native.Nat.{ℕ}
+use Prim.Native.Nat.{ℕ, zero, suc, min}
 use mathlib.Core.Path.{_≡_}
 use mathlib.Core.Bool.{cond}
 use mathlib.Core.List.{List, [], _∷_}
 use lib.Dec.{eqb}
+use lib.IntN.{ℤ, pos, negsuc}
+use lib.ListN.{length, take}
 use Rattle.lines.specs.Lines.{lf}
 use Rattle.lists.specs.declared.Reader.{Reader}
-use Rattle.lists.specs.Parts.{newReader, fresh, grown}
+use Rattle.lists.specs.Parts.{fresh, grown}
 use Rattle.filter.specs.declared.State.{State}
 use Rattle.filter.specs.declared.State.the-variants as S
 use Rattle.filter.specs.declared.Turn.{Turn}
@@ -27,16 +29,16 @@ pub data BlockTurn (r : Reader) (block : List ℕ) : Turn → Type 0 where
   answered : BlockTurn r block (turn (readerAfter r block) S.Going)
   unwritten : BlockTurn r block (turn r S.Unwritten)
 
--- a block read: some bytes, or none
-pub data ReadTurn (r : Reader) : Turn → Type 0 where
-  some : (block : List ℕ) (t : Turn) → BlockTurn r block t → ReadTurn r t
-  ended : ReadTurn r (turn r S.Ended)
-  unread : ReadTurn r (turn r S.Unread)
+-- what `read` answered, and the buffer after it: below 0 it cannot be read, at 0 it has ended, else so many of the bytes are a block
+abbrev pub ReadTurn : ℤ → Reader → List ℕ → Turn → Type 0
+ReadTurn (negsuc k) r input t = t ≡ turn r S.Unread
+ReadTurn (pos zero) r input t = t ≡ turn r S.Ended
+ReadTurn (pos (suc k)) r input t = BlockTurn r (take (min (suc k) (length input)) input) t
 
--- a list read, as far as it was: the reader is the one after its bytes
-pub record ListTurn (t : Turn) : Type 0 where
-  pub list : List ℕ
-  pub reader : t .reader ≡ readerAfter newReader list
+-- turns that took some bytes or none: the reader is the one after them
+pub record Took (r : Reader) (t : Turn) : Type 0 where
+  pub bytes : List ℕ
+  pub reader : t .reader ≡ readerAfter r bytes
 
 -- the end of a list: its last answer is written or cannot be; where the list was not read to its end none is owed
 pub data EndTurn : State → State → Type 0 where

@@ -13,9 +13,9 @@ ghost use mathlib.Core.Path.{_≡_};
 ghost use mathlib.Core.List.{[]};
 ghost use lib.ListN.{length};
 ghost use Rattle.answer.specs.Sheets.{longestAnswer};
-ghost use Rattle.lists.specs.Parts.{readFrom, closing};
+ghost use Rattle.lists.specs.Parts.{newReader, readFrom, closing};
 ghost use Rattle.filter.specs.Output.{headerOf};
-ghost use Rattle.filter.specs.Turns.{BlockTurn, ReadTurn, ListTurn, EndTurn, statusOf};
+ghost use Rattle.filter.specs.Turns.{BlockTurn, ReadTurn, Took, EndTurn, statusOf};
 
 // How far a run has come: there may be more to read; the input has ended; it cannot be read; an
 // answer cannot be written.
@@ -92,12 +92,11 @@ fn answer_block(sheet: Sheet, first: Reader, block: &[u8], out: &mut [u8]) -> Tu
     }
 }
 
-// Reads a block and answers it.
-fn read_block(sheet: Sheet, reader: Reader, input: &mut [u8], out: &mut [u8]) -> Turn
+// Answers what a `read` into `input` brought, by what it answered.
+fn answer_read(sheet: Sheet, reader: Reader, got: isize, input: &[u8], out: &mut [u8]) -> Turn
     requires { ⌜ longestAnswer sheet ≤ length (now out) ⌝ }
-    ensures { λ t. ⌜ ReadTurn reader t ⌝ }
+    ensures { λ t. ⌜ ReadTurn got reader (now (input .entry)) t ⌝ }
 {
-    let got = libc::read(STDIN_FILENO, input);
     if got < 0 {
         os::fail(b"standard input");
         return Turn {
@@ -105,21 +104,30 @@ fn read_block(sheet: Sheet, reader: Reader, input: &mut [u8], out: &mut [u8]) ->
             state: State::Unread,
         };
     }
-    let n = io::count(got, input);
-    if n == 0 {
-        return Turn {
-            reader: reader,
-            state: State::Ended,
-        };
+    if 0 < got {
+        let n = io::count(got, input);
+        return answer_block(sheet, reader, &input[..n], out);
     }
-    answer_block(sheet, reader, &input[..n], out)
+    Turn {
+        reader: reader,
+        state: State::Ended,
+    }
+}
+
+// Reads a block and answers it.
+fn read_block(sheet: Sheet, reader: Reader, input: &mut [u8], out: &mut [u8]) -> Turn
+    requires { ⌜ longestAnswer sheet ≤ length (now out) ⌝ }
+    ensures { λ t. ⌜ Took reader t ⌝ }
+{
+    let got = libc::read(STDIN_FILENO, input);
+    answer_read(sheet, reader, got, input, out)
 }
 
 // Reads the list as far as it can be read and answered. A proved loop has to end, and nothing says
 // that the input does: the turns are counted down from a number that no run uses up.
 fn read_list(sheet: Sheet, input: &mut [u8], out: &mut [u8]) -> Turn
     requires { ⌜ longestAnswer sheet ≤ length (now out) ⌝ }
-    ensures { λ t. ⌜ ListTurn t ⌝ }
+    ensures { λ t. ⌜ Took newReader t ⌝ }
 {
     let mut reader = new_reader();
     let mut turns = u64::MAX;

@@ -2,12 +2,12 @@
 -- of the reader what the block makes of the first. The measure is how many bytes of the block are left: with that room each call takes
 -- one at least. Of the writing it is assumed that each call returns.
 use Prim.Native.Nat.{ℕ, _+_, _-_, _≤_, _<_}
-use mathlib.Core.Path.{_≡_, refl, sym, ap, subst, _∙_}
+use mathlib.Core.Path.{_≡_, refl, sym, subst, _∙_}
 use mathlib.Core.List.{List}
 use native.Mathlib.Omega.{arith}
 use borrow.Author.Needs.{needs}
 use denote.Ref.{now}
-use lib.ListN.{length, take, drop, length-drop, drop-of-length-le}
+use lib.ListN.{length, drop, length-drop, drop-of-length-le}
 use lib.Seq.{length-take-le, drop-drop}
 use Rattle.text.proofs.FigureLaws.{rest}
 use Rattle.answer.specs.Sheets.{longestAnswer}

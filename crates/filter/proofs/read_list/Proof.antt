@@ -1,18 +1,18 @@
 -- The loop's invariant: both blocks are as long as they were, and the reader is the one after the list so far. The measure is how many
 -- turns are left. Of the reading and the writing it is assumed that each call returns.
 use mathlib.Core.Path.{_≡_, refl, _∙_}
-use native.Mathlib.Omega.{arith}
 use borrow.Author.Needs.{needs}
 use lib.ListN.{length}
+use Rattle.lists.specs.Parts.{newReader}
 use Rattle.filter.specs.declared.State.the-variants as S
-use Rattle.filter.specs.Turns.{turn, ListTurn}
+use Rattle.filter.specs.Turns.{turn, Took}
 use Rattle.filter.proofs.TurnLaws.{begun, next-turn, same-reader}
 use Rattle.filter.proofs.read_list.Statement.{statement}
 use Rattle.filter.proofs.read_list.Tie as tie
 
 abbrev Inv-loop : tie.InvT-loop
 Inv-loop sheet input₀ out₀ reader₀ turns₀ input out reader turns =
-    (length input ≡ length input₀) × (length out ≡ length out₀) × ListTurn (turn reader S.Going)
+    (length input ≡ length input₀) × (length out ≡ length out₀) × Took newReader (turn reader S.Going)
 
 abbrev μ-loop : tie.MeasureT-loop
 μ-loop sheet input₀ out₀ reader₀ turns₀ input out reader turns = turns

@@ -1,6 +1,5 @@
 -- Each way ends with its own status. Of the reading and the writing it is assumed that each call returns.
 use native.Mathlib.Omega.{arith}
-use mathlib.Core.Path.{refl}
 use borrow.Author.Needs.{needs}
 use Rattle.programs.proofs.serve.Statement.{statement}
 use Rattle.programs.proofs.serve.Tie as tie
