@@ -1,7 +1,5 @@
 // The completing program: a list of requests on standard input, a header and one answer line a
-// request on standard output.
-use answer::Sheet;
-
+// request on standard output. Its exit status says nothing; that of `programs/link`'s does.
 fn main() {
-    filter::run(Sheet::Completion, b"dip W ZTOR RRUP Z25 from\n");
+    programs::xanhupive_program_complete();
 }

@@ -1,15 +1,24 @@
 -- A block has room for the longest answer. Of the reading and the writing it is assumed that each call returns.
-use borrow.Author.Needs.{needs}
 use Prim.Native.Nat.{_≤_}
 use native.Mathlib.Omega.{arith}
+use borrow.Author.Needs.{needs}
 use Rattle.answer.specs.declared.Sheet.{Sheet}
 use Rattle.answer.specs.declared.Sheet.the-variants as S
 use Rattle.answer.specs.Sheets.{longestAnswer}
+use Rattle.filter.specs.declared.State.{State}
+use Rattle.filter.specs.declared.State.the-variants as T
+use Rattle.filter.specs.Turns.{statusOf}
 use Rattle.filter.proofs.run.Statement.{statement}
 use Rattle.filter.proofs.run.Tie as tie
 
-put-out-requires : tie.Need-put-out-requires
-put-out-requires c κs = search needs
+begin-requires : tie.Need-begin-requires
+begin-requires c κs = search needs
+
+status-of-requires : tie.Need-status-of-requires
+status-of-requires c κs = search needs
+
+returns : tie.Need-returns
+returns c = search needs
 
 large-buffer-requires : tie.Need-large-buffer-requires
 large-buffer-requires c κs = search needs
@@ -39,14 +48,26 @@ slice-aggregate-end-list c = search needs
 end-list-requires : tie.Need-end-list-requires
 end-list-requires c κs = search needs
 
-returns : tie.Need-returns
-returns c = search needs
+status-of-requires-2 : tie.Need-status-of-requires-2
+status-of-requires-2 c κs = search needs
+
+-- a run ends with 0 or 1
+small : (s : State) → statusOf s ≤ 1
+small T.Going = omega arith
+small T.Ended = omega arith
+small T.Unread = omega arith
+small T.Unwritten = omega arith
+
+returns-2 : tie.Need-returns-2
+returns-2 c = omega (arith, c .status-of2 .ensures, small (c .before .before .end-list .result))
 
 pub run-spec : {M : Type 1} → statement M
 run-spec =
     tie.close
     (tie.spec
-    put-out-requires
+    begin-requires
+    status-of-requires
+    returns
     large-buffer-requires
     large-buffer-requires-2
     slice-aggregate-read-list
@@ -54,4 +75,5 @@ run-spec =
     read-list-requires
     slice-aggregate-end-list
     end-list-requires
-    returns)
+    status-of-requires-2
+    returns-2)
