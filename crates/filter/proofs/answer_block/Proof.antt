@@ -9,7 +9,7 @@ use borrow.Author.Needs.{needs}
 use denote.Ref.{now}
 use lib.ListN.{length, drop, length-drop, drop-of-length-le}
 use lib.Seq.{length-take-le, drop-drop}
-use Rattle.text.proofs.FigureLaws.{rest}
+use Rattle.lent.proofs.PartLaws.{rest}
 use Rattle.answer.specs.Sheets.{longestAnswer}
 use Rattle.lists.specs.declared.Reader.{Reader}
 use Rattle.lists.specs.Parts.{PartTaken}
