@@ -13,9 +13,9 @@ use Rattle.fixed.specs.Fixed.{K21}
 use Rattle.tables.specs.Tables.{coefficientsAt, deviationsAt}
 use Rattle.model.specs.declared.Scenario.{Scenario}
 use Rattle.model.specs.Equations.{E24, alpha, intraVariance, median, intra, total, arbitrary, rockPGA, joined, inter}
-use Rattle.model.specs.Accuracy.{InRange, FineInRange, exactOf, Accurate}
+use Rattle.model.specs.Accuracy.{InRange, exactOf, Accurate}
 use Rattle.exact.proofs.Signed.{by-sign}
-use Rattle.model.specs.Fixed.{squaredFixed, alphaFixed, varianceFixed, fineFixed, rowFixed, rockPGAFixed, intraVarianceFixed}
+use Rattle.model.specs.Fixed.{squaredFixed, alphaFixed, varianceFixed, fineFixed, rowFixed, rockPGAFixed, intraVarianceFixed, FineInRange}
 use Rattle.model.proofs.Alpha.{alpha-near, alphaLow, alpha-between}
 use Rattle.model.proofs.Between.{Between}
 use Rattle.model.proofs.SigmaNear.{joined-near}

@@ -1,10 +1,9 @@
 -- Demand 3: how near a reported row lies to exact values, and the figures of which it is promised. Definitions only.
 use Prim.Native.Nat.{ℕ, _+_, _*_, _≤_}
 use lib.IntN.{ℤ, pos}
-use Rattle.exact.specs.Near.{up, dn, NearZ}
+use Rattle.exact.specs.Near.{NearZ}
 use Rattle.fixed.specs.Fixed.{K20}
 use Rattle.model.specs.declared.Scenario.{Scenario}
-use Rattle.model.specs.declared.Fine.{Fine}
 use Rattle.model.specs.declared.Row.{Row}
 use Rattle.model.specs.Equations.{E24, lnMedian, median, intra, inter, total, arbitrary}
 
@@ -21,15 +20,6 @@ pub record InRange (x : Scenario) : Type 0 where
   pub z25-high : x .z25 ≤ 10000
   -- RRUP is at most a metre short of the root of RJB² + ZTOR²
   pub apart : x .rjb * x .rjb + x .ztor * x .ztor ≤ (x .rrup + 1) * (x .rrup + 1)
-
--- how large a fine row of such a request is: ln median from -15 to 13 and 400 units, a variance at most 2.4
-pub record FineInRange (f : Fine) : Type 0 where
-  pub ln-low : dn (f .ln) ≤ 15000000400
-  pub ln-high : up (f .ln) ≤ 13000000400
-  pub intra-high : f .intra ≤ 2400000000
-  pub t-high : f .t ≤ 500
-  pub total-high : f .total ≤ 2400000000
-  pub arbitrary-high : f .arbitrary ≤ 2400000000
 
 -- the exact values of one measure, in units of 10^-30
 pub record Exact : Type 0 where

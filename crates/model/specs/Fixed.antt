@@ -2,11 +2,11 @@
 -- contract is equality with its definition here; how near that lies to the exact value is a law of `proofs/`. Products of a
 -- coefficient are rounded toward zero. A request needs the rock PGA, the distance factor and the basin factor once, a logarithm of
 -- the distance for each c6, and a curve and its logarithm for each k1. Definitions only.
-use Prim.Native.Nat.{ℕ, _+_, _-_, _*_, _/_}
+use Prim.Native.Nat.{ℕ, _+_, _-_, _*_, _/_, _≤_}
 use mathlib.Core.Bool.{true, false}
 use lib.Dec.{ltb, leb, eqb}
 use lib.IntN.{ℤ, pos, negℤ, _+ℤ_, _-ℤ_, _*ℤ_}
-use Rattle.exact.specs.Near.{up}
+use Rattle.exact.specs.Near.{up, dn}
 use Rattle.exact.specs.Root.{root}
 use Rattle.fixed.specs.Fixed.{E9, mulDiv, nearest, lnFixed, lnQuotient, expFixed}
 use Rattle.request.specs.declared.Style.{Style}
@@ -163,6 +163,15 @@ fineFixed i x =
       total = v + squaredFixed (d .t);
       arbitrary = v + squaredFixed (d .t) + squaredFixed (d .sC);
     }
+
+-- how large the fine row of an accepted request is: ln median from -15 to 13 and 400 units, a variance at most 2.4
+pub record FineInRange (f : Fine) : Type 0 where
+  pub ln-low : dn (f .ln) ≤ 15000000400
+  pub ln-high : up (f .ln) ≤ 13000000400
+  pub intra-high : f .intra ≤ 2400000000
+  pub t-high : f .t ≤ 500
+  pub total-high : f .total ≤ 2400000000
+  pub arbitrary-high : f .arbitrary ≤ 2400000000
 
 -- ---- what is reported
 -- the root of a variance, to the nearest millionth

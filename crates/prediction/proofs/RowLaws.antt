@@ -16,8 +16,8 @@ use Rattle.model.specs.declared.Scenario.{Scenario}
 use Rattle.model.specs.declared.Fine.{Fine}
 use Rattle.model.specs.declared.Row.{Row}
 use Rattle.model.specs.declared.Shown.{Shown}
-use Rattle.model.specs.Fixed.{fineFixed, report, rowFixed, shownOf, noRow, noShown}
-use Rattle.model.specs.Accuracy.{InRange, FineInRange, Exact, exactOf}
+use Rattle.model.specs.Fixed.{fineFixed, report, rowFixed, shownOf, noRow, noShown, FineInRange}
+use Rattle.model.specs.Accuracy.{InRange, Exact, exactOf}
 use Rattle.model.proofs.Reported.{FineNear, median-fits}
 use Rattle.model.proofs.Demand.{fine-near, fine-in-range}
 use Rattle.model.proofs.Sizes.{ln-size, sigma-size}

@@ -21,9 +21,9 @@ ghost use Prim.Native.Nat.{ℕ, _<_};
 ghost use lib.ListN.{length, getD};
 ghost use Rattle.tables.specs.Tables.{measures};
 ghost use Rattle.tables.specs.OfTables.{OfTable3};
-ghost use Rattle.model.specs.Accuracy.{InRange, FineInRange};
+ghost use Rattle.model.specs.Accuracy.{InRange};
 ghost use Rattle.model.specs.Equations.{most};
-ghost use Rattle.model.specs.Fixed.{report, shownOf, rowFixed, noFine, noRow, noShown};
+ghost use Rattle.model.specs.Fixed.{report, shownOf, rowFixed, noFine, noRow, noShown, FineInRange};
 ghost use Rattle.sigmas.specs.Settling.{settledOf};
 
 // A median, at least 1.

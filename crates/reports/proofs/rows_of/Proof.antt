@@ -1,8 +1,7 @@
 -- Each fine row is in range. Assumes nothing.
 use borrow.Author.Needs.{needs}
 use mathlib.Core.Path.{sym, ap, subst, _∙_}
-use Rattle.model.specs.Accuracy.{FineInRange}
-use Rattle.model.specs.Fixed.{report, rowFixed}
+use Rattle.model.specs.Fixed.{report, rowFixed, FineInRange}
 use Rattle.model.proofs.Demand.{fine-in-range}
 use Rattle.reports.proofs.rows_of.Statement.{statement}
 use Rattle.reports.proofs.rows_of.Tie as tie
