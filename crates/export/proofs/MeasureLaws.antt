@@ -19,19 +19,19 @@ use Rattle.text.specs.declared.read.Line.the-variants as L
 use Rattle.prediction.specs.declared.measure.OneMeasure.{OneMeasure}
 use Rattle.prediction.specs.declared.measure.OneMeasure.the-variants as M
 use Rattle.prediction.specs.Spectra.{scenarioOf}
-use Rattle.prediction.specs.Measures.{measureOf}
+use Rattle.prediction.specs.Measures.{measureOf, refusalIn, medianIn, sigmaIn}
 use Rattle.prediction.proofs.RowLaws.{by-completion}
 use Rattle.prediction.proofs.MeasureLaws.{measure-none, measure-fixed, no-value}
 use Rattle.prediction.proofs.MeasureLaws as P
-use Rattle.export.specs.Given.{measureAnswer, refusalIn, medianAfter, totalAfter, MeasureGiven}
+use Rattle.export.specs.Given.{measureAnswer, MeasureGiven}
 
 module _ (y s : Float) where
   value-given : (m t : Float) → MeasureGiven (M.Value m t) 0 y m s t
-  unfolding refusalIn medianAfter totalAfter
+  unfolding refusalIn medianIn sigmaIn
   value-given m t = record { refusal = refl; median = refl; total = refl }
 
   refusal-given : (n : ℕ) → MeasureGiven (M.Refused n) n y y s s
-  unfolding refusalIn medianAfter totalAfter
+  unfolding refusalIn medianIn sigmaIn
   refusal-given n = record { refusal = refl; median = refl; total = refl }
 
   module _ (a : OneMeasure) where

@@ -11,7 +11,7 @@ use Rattle.prediction.specs.declared.floats.FloatSpectrum.{FloatSpectrum}
 use Rattle.prediction.specs.declared.measure.OneMeasure.{OneMeasure}
 use Rattle.prediction.specs.declared.measure.OneMeasure.the-variants as M
 use Rattle.prediction.specs.Floats.{floatSpectrumOf}
-use Rattle.prediction.specs.Measures.{measureOf}
+use Rattle.prediction.specs.Measures.{measureOf, refusalIn, medianIn, sigmaIn}
 use Rattle.lent.specs.Lent as Lent
 use Rattle.lent.specs.Lent.{countOf, wrote, after}
 use Rattle.text.specs.declared.read.Line.{Line}
@@ -32,26 +32,11 @@ unfolding measureOf
 measureAnswer (L.Is r) k = measureOf r k
 measureAnswer L.Malformed k = M.Refused (numberOf L.Malformed)
 
--- the refusal's number, 0 for none
-unfoldable pub refusalIn : OneMeasure → ℕ
-refusalIn (M.Value y s) = 0
-refusalIn (M.Refused n) = n
-
--- the number lent for the median, which was x, afterwards
-unfoldable pub medianAfter : OneMeasure → Float → Float
-medianAfter (M.Value y s) x = y
-medianAfter (M.Refused n) x = x
-
--- the number lent for the total sigma, which was x, afterwards
-unfoldable pub totalAfter : OneMeasure → Float → Float
-totalAfter (M.Value y s) x = s
-totalAfter (M.Refused n) x = x
-
 -- what is promised of the answer a: the number n, and what the lent numbers y and s became
 pub record MeasureGiven (a : OneMeasure) (n : ℕ) (y y₁ s s₁ : Float) : Type 0 where
   pub refusal : n ≡ refusalIn a
-  pub median : y₁ ≡ medianAfter a y
-  pub total : s₁ ≡ totalAfter a s
+  pub median : y₁ ≡ medianIn a y
+  pub total : s₁ ≡ sigmaIn a s
 
 -- ---- a spectrum
 -- that of a line: a malformed one is refused, and has no rows

@@ -1,9 +1,10 @@
 -- The table of refusals stands in document 01's order. A request is refused with n exactly when a row of n holds and no row before it
 -- does, and accepted exactly when none holds. Assumes nothing.
-use Prim.Native.Nat.{ℕ, zero, suc, _≤_, _<_}
-use mathlib.Core.Path.{_≡_, refl, sym, ap, subst, _∙_}
+use Prim.Native.Nat.{ℕ, zero, suc, _≤_}
+use mathlib.Core.Path.{_≡_, refl, sym, ap, _∙_}
 use mathlib.Core.List.{_++_}
 use mathlib.Core.Logic.{_↔_}
+use native.Mathlib.Omega.{arith}
 use lib.Dec.{T}
 use Rattle.request.specs.declared.Request.{Request}
 use Rattle.outcome.specs.declared.Completion.the-variants as C
@@ -11,7 +12,7 @@ use Rattle.refusals.specs.Order.{first, Fires, Silent, InOrder}
 use Rattle.refusals.specs.Order as No
 use Rattle.outcome.specs.Refusals.{sourceGiven, sourceRows, pathGiven, pathRows, siteGiven, siteRows, rows, refusal}
 use Rattle.outcome.specs.Answers.{completed, answer, completionOf, numberOf}
-use Rattle.refusals.proofs.Rows.{numbered, absent, first-most, first-absent, first-both, fires-first, first-fires, silent-first, first-silent}
+use Rattle.refusals.proofs.Rows.{numbered, first-most, first-absent, first-both, fires-first, first-fires, silent-first, first-silent}
 
 pub in-order : (r : Request) → InOrder (rows r)
 unfolding rows sourceRows sourceGiven pathRows pathGiven siteRows siteGiven
@@ -49,13 +50,10 @@ pub number-most : (r : Request) → refusal r ≤ No.basin
 unfolding refusal rows sourceRows sourceGiven pathRows pathGiven siteRows siteGiven
 number-most r = first-most No.basin (rows r) tt
 
-pub completion-most : (r : Request) (n : ℕ) → completionOf r ≡ C.Refused n → n ≤ No.basin
-completion-most r n e = subst (λ (m : ℕ). m ≤ No.basin) (sym (number-is r) ∙ ap numberOf e) (number-most r)
-
--- a number that no row has is never given
-pub completion-absent : (r : Request) (n : ℕ) → 0 < n → T (absent n (rows r)) → completionOf r ≡ C.Refused n → ⊥
-unfolding refusal
-completion-absent r n h t e = first-absent n (rows r) h t (sym (number-is r) ∙ ap numberOf e)
+-- no completion is refused for a measure: no row has that number
+pub measure-unread : (r : Request) → completionOf r ≡ C.Refused No.noMeasure → ⊥
+unfolding refusal rows sourceRows sourceGiven pathRows pathGiven siteRows siteGiven
+measure-unread r e = first-absent No.noMeasure (rows r) (omega arith) tt (sym (number-is r) ∙ ap numberOf e)
 
 -- every row has its number
 pub rows-numbered : (r : Request) → T (numbered (rows r))

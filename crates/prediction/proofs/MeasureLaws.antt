@@ -16,7 +16,7 @@ use Rattle.outcome.specs.declared.Completed.{Completed}
 use Rattle.outcome.specs.declared.Completion.the-variants as C
 use Rattle.outcome.specs.Refusals.{rows, refusal}
 use Rattle.outcome.specs.Answers.{completed, completionOf}
-use Rattle.outcome.proofs.ExactlyWhen.{accepted-by, completion-most}
+use Rattle.outcome.proofs.ExactlyWhen.{accepted-by, measure-unread}
 use Rattle.tables.specs.Tables.{measures}
 use Rattle.model.specs.declared.Row.{Row}
 use Rattle.model.specs.declared.Shown.{Shown}
@@ -85,7 +85,4 @@ no-measure-exactly r k = (there, λ p. measure-none r (completed r) k (accepted-
     there : measureOf r k ≡ M.Refused No.noMeasure → (refusal r ≡ 0) × (measures ≤ k)
     there h =
         by-completion r (λ c e. (accepted r c e, by-number c e h (ltb k measures) refl))
-        (λ n e. absurd (too-high n (completion-most r n e) (same-refusal n No.noMeasure (sym (measure-refused r n k e) ∙ h))))
-      where
-        too-high : (n : ℕ) → n ≤ No.basin → n ≡ No.noMeasure → ⊥
-        too-high n l e = omega arith
+        (λ n e. absurd (measure-unread r (e ∙ ap C.Refused (same-refusal n No.noMeasure (sym (measure-refused r n k e) ∙ h)))))
