@@ -101,10 +101,10 @@ sC-is : (c : tie.Start) → c .args .m .d .sC ≡ deviationsAt (c .args .m .numb
 sC-is c = ap (λ (d : Deviations). d .sC) (d-is (c .args .m) (c .pre .0))
 
 squared-requires : tie.Need-squared-requires
-squared-requires c κs = let s = start (c .before) in omega (arith, t-is s, at s .t-high)
+squared-requires c κs = let s = start (c .before) in omega (arith, t-is s, sC-is s, at s .t-high, at s .sC-high)
 
 squared-requires-2 : tie.Need-squared-requires-2
-squared-requires-2 c κs = let s = start (c .before .before) in omega (arith, sC-is s, at s .sC-high)
+squared-requires-2 c κs = let s = start (c .before .before) in omega (arith, t-is s, sC-is s, at s .t-high, at s .sC-high)
 
 t2-is : (c : tie.After-squared) → c .squared .result ≡ squaredFixed (deviationsAt (start (c .before .before) .args .m .number) .t)
 t2-is c = c .squared .ensures ∙ ap squaredFixed (t-is (start (c .before .before)))

@@ -15,10 +15,10 @@ small : (c : tie.Start) → Spread (c .args .d)
 small c = spread-of (c .args .d) (c .pre .0)
 
 squared-requires : tie.Need-squared-requires
-squared-requires c κs = omega (arith, small c .s-high)
+squared-requires c κs = omega (arith, small c)
 
 squared-requires-2 : tie.Need-squared-requires-2
-squared-requires-2 c κs = omega (arith, small (c .before) .t-high)
+squared-requires-2 c κs = omega (arith, small (c .before))
 
 squares :
     (c : tie.Start)
@@ -33,7 +33,7 @@ add-sigma-or c =
     record { fits = omega (arith, c .squared2 .ensures, c .before .squared .ensures, squares s) }
 
 squared-requires-3 : tie.Need-squared-requires-3
-squared-requires-3 c κs = omega (arith, small (c .before .before) .sC-high)
+squared-requires-3 c κs = omega (arith, small (c .before .before))
 
 add-sigma-or-2 : tie.Need-add-sigma-or-2
 add-sigma-or-2 c =

@@ -1,22 +1,21 @@
 -- The root of s² is s. Assumes nothing.
-use Prim.Native.Nat.{_≤_}
 use mathlib.Core.Path.{sym, ap, _∙_}
 use native.Mathlib.Omega.{arith}
 use borrow.Author.Needs.{needs}
 use Rattle.model.specs.Fixed.{sigmaOf}
-use Rattle.model.proofs.Fair.{spread-of}
+use Rattle.model.proofs.Fair.{Spread, spread-of}
 use Rattle.sigmas.proofs.LinearSite.{whole-sigma}
 use Rattle.sigmas.proofs.intra_of.Statement.{statement}
 use Rattle.sigmas.proofs.intra_of.Tie as tie
 
-s-high : (c : tie.Start) → c .args .d .s ≤ 700
-s-high c = spread-of (c .args .d) (c .pre .0) .s-high
+small : (c : tie.Start) → Spread (c .args .d)
+small c = spread-of (c .args .d) (c .pre .0)
 
 squared-requires : tie.Need-squared-requires
-squared-requires c κs = omega (arith, s-high c)
+squared-requires c κs = omega (arith, small c)
 
 mul-sigma-or : tie.Need-mul-sigma-or
-mul-sigma-or c = record { fits = omega (arith, s-high (c .before .before)) }
+mul-sigma-or c = record { fits = omega (arith, small (c .before .before)) }
 
 sigma-or-requires : tie.Need-sigma-or-requires
 sigma-or-requires c κs =

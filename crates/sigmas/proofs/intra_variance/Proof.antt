@@ -54,7 +54,7 @@ here : (c : tie.Start) → Steps (c .args .d) (c .args .alpha)
 here c = steps (c .args .d) (c .args .alpha) (spread-of (c .args .d) (c .pre .0)) (c .pre .2)
 
 squared-requires : tie.Need-squared-requires
-squared-requires c κs = omega (arith, spread-of (c .args .d) (c .pre .0) .s-high)
+squared-requires c κs = omega (arith, spread-of (c .args .d) (c .pre .0))
 
 -- s², as it was worked out
 linear-is : (c : tie.After-squared) → c .squared .result ≡ squaredFixed (c .before .args .d .s)

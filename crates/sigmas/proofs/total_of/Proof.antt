@@ -15,10 +15,10 @@ small : (c : tie.Start) → Spread (c .args .d)
 small c = spread-of (c .args .d) (c .pre .0)
 
 squared-requires : tie.Need-squared-requires
-squared-requires c κs = omega (arith, small c .s-high)
+squared-requires c κs = omega (arith, small c)
 
 squared-requires-2 : tie.Need-squared-requires-2
-squared-requires-2 c κs = omega (arith, small (c .before) .t-high)
+squared-requires-2 c κs = omega (arith, small (c .before))
 
 squares : (c : tie.Start) → squaredFixed (c .args .d .s) + squaredFixed (c .args .d .t) ≤ 740000000
 squares c =

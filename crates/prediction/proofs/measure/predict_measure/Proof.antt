@@ -64,10 +64,10 @@ small c =
     (fixed-small measure (x .scenario-of .result) (omega (arith, x .before .if1 .left)) (ready x)))
 
 of-nat-requires : tie.Need-of-nat-requires
-of-nat-requires c κs = omega (arith, small c .median)
+of-nat-requires c κs = omega (arith, small c)
 
 of-nat-requires-2 : tie.Need-of-nat-requires-2
-of-nat-requires-2 c κs = omega (arith, small (c .before) .sigma)
+of-nat-requires-2 c κs = omega (arith, small (c .before))
 
 returns-3 : tie.Need-returns-3
 unfolding shownValue
