@@ -13,7 +13,6 @@ pub use floats::FloatSpectrum;
 pub use floats::predict_floats;
 pub use measure::OneMeasure;
 pub use measure::predict_measure;
-pub use measure::refusal_in;
 use model::Row;
 use model::Scenario;
 use reports::rows_of;

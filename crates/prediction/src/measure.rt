@@ -9,22 +9,12 @@ use reports::shown_at;
 use request::Request;
 use tables::MEASURES;
 ghost use mathlib.Core.Path.{_≡_};
-ghost use Rattle.prediction.specs.Measures.{measureOf, refusalIn};
+ghost use Rattle.prediction.specs.Measures.{measureOf};
 
 // The median and the sigma that a sheet shows, or the refusal's number.
 pub enum OneMeasure {
     Value(f64, f64),
     Refused(u32),
-}
-
-// The refusal's number, 0 for none.
-pub fn refusal_in(a: OneMeasure) -> u32
-    ensures { λ n. ⌜ n ≡ refusalIn a ⌝ }
-{
-    match a {
-        OneMeasure::Value(_, _) => 0,
-        OneMeasure::Refused(n) => n,
-    }
 }
 
 // Predicts one measure of any request. It asks for nothing: the measure may be any number.
