@@ -122,7 +122,7 @@ pub fn fine_at(i: usize, x: Scenario) -> Fine
 
 // The fine rows of all measures. PGA's comes first, likewise; from there on measures that are alike in c6
 // or k1 follow one another.
-pub fn fine_rows_of(x: Scenario) -> [Fine; 24]
+pub fn fine_rows_of(x: Scenario) -> [Fine; MEASURES]
     requires { ⌜ InRange x ⌝ }
     ensures { λ r. ⌜ (length r ≡ measures) × ((k : ℕ) → k < measures → getD r k noFine ≡ fineFixed k x) ⌝ }
 {
@@ -133,7 +133,7 @@ pub fn fine_rows_of(x: Scenario) -> [Fine; 24]
         total: 0,
         arbitrary: 0,
     };
-    let mut rows = [none; 24];
+    let mut rows = [none; MEASURES];
     let table2 = all_coefficients();
     let table3 = all_deviations();
     let settled = all_settled();

@@ -26,7 +26,7 @@ pub struct FloatRow {
 // The refusal's number, 0 for none, and a row for each measure.
 pub struct FloatSpectrum {
     pub refusal: u32,
-    pub rows: [FloatRow; 24],
+    pub rows: [FloatRow; MEASURES],
 }
 
 // A whole number as the f64 that it is.
@@ -62,7 +62,7 @@ fn float_row(r: Row) -> FloatRow
 }
 
 // All rows.
-fn float_rows(rows: [Row; 24]) -> [FloatRow; 24]
+fn float_rows(rows: [Row; MEASURES]) -> [FloatRow; MEASURES]
     requires { ⌜ ((k : ℕ) → k < measures → Small (getD rows k noRow)) ⌝ }
     ensures { λ f. ⌜ (length f ≡ measures) × ((k : ℕ) → k < measures → getD f k noFloats ≡ floatsOf (getD rows k noRow)) ⌝ }
 {
@@ -74,7 +74,7 @@ fn float_rows(rows: [Row; 24]) -> [FloatRow; 24]
         total: 0.0,
         arbitrary: 0.0,
     };
-    let mut out = [none; 24];
+    let mut out = [none; MEASURES];
     let mut k = 0usize;
     while k < MEASURES {
         let r = rows[k];

@@ -20,13 +20,14 @@ use request::Request;
 use request::style_of;
 pub use shown::ShownSpectrum;
 pub use shown::predict_shown;
+use tables::MEASURES;
 ghost use mathlib.Core.Path.{_≡_};
 ghost use Rattle.prediction.specs.Spectra.{scenarioOf, refusedWith, spectrumOf};
 
 // The refusal's number, 0 for none, and a row for each measure.
 pub struct Spectrum {
     pub refusal: u32,
-    pub rows: [Row; 24],
+    pub rows: [Row; MEASURES],
 }
 
 // The completed figures that the model reads.
@@ -62,7 +63,7 @@ fn refused(n: u32) -> Spectrum
         total: 0,
         arbitrary: 0,
     };
-    let rows = [none; 24];
+    let rows = [none; MEASURES];
     Spectrum {
         refusal: n,
         rows: rows,

@@ -6,13 +6,14 @@ use completion::number_of;
 use model::Shown;
 use reports::shown_rows_of;
 use request::Request;
+use tables::MEASURES;
 ghost use mathlib.Core.Path.{_≡_};
 ghost use Rattle.prediction.specs.Spectra.{refusedWith, shownSpectrum, shownSpectrumOf};
 
 // The refusal's number, 0 for none, and what is shown of each measure.
 pub struct ShownSpectrum {
     pub refusal: u32,
-    pub rows: [Shown; 24],
+    pub rows: [Shown; MEASURES],
 }
 
 // Zeros beside a refusal's number.
@@ -24,7 +25,7 @@ fn refused_shown(n: u32) -> ShownSpectrum
         median: 0,
         sigma: 0,
     };
-    let rows = [none; 24];
+    let rows = [none; MEASURES];
     ShownSpectrum {
         refusal: n,
         rows: rows,

@@ -73,7 +73,7 @@ pub fn shown_at(i: usize, x: Scenario) -> Shown
 }
 
 // All rows, each with all its figures.
-fn reports_of(fine: [Fine; 24]) -> [Row; 24]
+fn reports_of(fine: [Fine; MEASURES]) -> [Row; MEASURES]
     requires { ⌜ ((k : ℕ) → k < measures → FineInRange (getD fine k noFine)) ⌝ }
     ensures { λ r. ⌜ (length r ≡ measures) × ((k : ℕ) → k < measures → getD r k noRow ≡ report (getD fine k noFine)) ⌝ }
 {
@@ -85,7 +85,7 @@ fn reports_of(fine: [Fine; 24]) -> [Row; 24]
         total: 0,
         arbitrary: 0,
     };
-    let mut rows = [none; 24];
+    let mut rows = [none; MEASURES];
     let table3 = all_deviations();
     let settled = all_settled();
     let mut k = 0usize;
@@ -100,7 +100,7 @@ fn reports_of(fine: [Fine; 24]) -> [Row; 24]
 }
 
 // What a sheet shows of all rows.
-fn all_shown_of(fine: [Fine; 24]) -> [Shown; 24]
+fn all_shown_of(fine: [Fine; MEASURES]) -> [Shown; MEASURES]
     requires { ⌜ ((k : ℕ) → k < measures → FineInRange (getD fine k noFine)) ⌝ }
     ensures { λ r. ⌜ (length r ≡ measures) × ((k : ℕ) → k < measures → getD r k noShown ≡ shownOf (report (getD fine k noFine))) ⌝ }
 {
@@ -109,7 +109,7 @@ fn all_shown_of(fine: [Fine; 24]) -> [Shown; 24]
         median: 0,
         sigma: 0,
     };
-    let mut rows = [none; 24];
+    let mut rows = [none; MEASURES];
     let table3 = all_deviations();
     let settled = all_settled();
     let mut i = 0usize;
@@ -124,7 +124,7 @@ fn all_shown_of(fine: [Fine; 24]) -> [Shown; 24]
 }
 
 // The rows of all measures of a request.
-pub fn rows_of(x: Scenario) -> [Row; 24]
+pub fn rows_of(x: Scenario) -> [Row; MEASURES]
     requires { ⌜ InRange x ⌝ }
     ensures { λ r. ⌜ (length r ≡ measures) × ((k : ℕ) → k < measures → getD r k noRow ≡ rowFixed k x) ⌝ }
 {
@@ -132,7 +132,7 @@ pub fn rows_of(x: Scenario) -> [Row; 24]
 }
 
 // What a sheet shows of them.
-pub fn shown_rows_of(x: Scenario) -> [Shown; 24]
+pub fn shown_rows_of(x: Scenario) -> [Shown; MEASURES]
     requires { ⌜ InRange x ⌝ }
     ensures { λ r. ⌜ (length r ≡ measures) × ((k : ℕ) → k < measures → getD r k noShown ≡ shownOf (rowFixed k x)) ⌝ }
 {

@@ -6,6 +6,7 @@ use reckon::E9;
 use reckon::mul_div;
 use reckon::whole_root;
 use tables::Deviations;
+use tables::MEASURES;
 ghost use mathlib.Core.Path.{_≡_};
 ghost use mathlib.Core.List.{map};
 ghost use Prim.Native.Nat.{_≤_};
@@ -34,7 +35,7 @@ pub struct Settled {
 
 // All of them, a row a measure, held to Table 3 by a computed test. Whoever needs several rows takes them
 // once: each call builds them anew.
-pub fn all_settled() -> [Settled; 24]
+pub fn all_settled() -> [Settled; MEASURES]
     ensures { λ r. ⌜ r ≡ map settledOf table3 ⌝ }
 {
     rows::ROWS

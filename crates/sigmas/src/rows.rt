@@ -1,8 +1,9 @@
 // What Table 3 alone fixes of each measure.
 use crate::Settled;
+use tables::MEASURES;
 
 // A row a measure: the 21 periods, PGA, PGV, PGD.
-pub const ROWS: [Settled; 24] = [
+pub const ROWS: [Settled; MEASURES] = [
     // 0.010 s
     Settled {
         cross: 744_268_768,

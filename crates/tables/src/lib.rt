@@ -44,14 +44,14 @@ pub struct Deviations {
 }
 
 // Table 2, a row a measure. Whoever needs several rows takes the table once: each call builds it anew.
-pub fn all_coefficients() -> [Coefficients; 24]
+pub fn all_coefficients() -> [Coefficients; MEASURES]
     ensures { λ r. ⌜ r ≡ table2 ⌝ }
 {
     table2::ROWS
 }
 
 // Table 3, likewise.
-pub fn all_deviations() -> [Deviations; 24]
+pub fn all_deviations() -> [Deviations; MEASURES]
     ensures { λ r. ⌜ r ≡ table3 ⌝ }
 {
     table3::ROWS

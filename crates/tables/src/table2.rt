@@ -1,8 +1,9 @@
 // Table 2 of Campbell and Bozorgnia 2008: the coefficients of the median.
 use crate::Coefficients;
+use crate::MEASURES;
 
 // A row a measure: the 21 periods, PGA, PGV, PGD.
-pub const ROWS: [Coefficients; 24] = [
+pub const ROWS: [Coefficients; MEASURES] = [
     // 0.010 s
     Coefficients {
         c0: -1715,

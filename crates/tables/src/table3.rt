@@ -1,8 +1,9 @@
 // Table 3 of Campbell and Bozorgnia 2008: the standard deviations and the correlation.
 use crate::Deviations;
+use crate::MEASURES;
 
 // A row a measure: the 21 periods, PGA, PGV, PGD.
-pub const ROWS: [Deviations; 24] = [
+pub const ROWS: [Deviations; MEASURES] = [
     // 0.010 s
     Deviations {
         s: 478,
