@@ -17,9 +17,10 @@ use Rattle.outcome.proofs.Ranges.{source-range, source-given, top-range}
 use Rattle.outcome.proofs.SentBackWhole.{rrup-high, site-rows}
 use Rattle.tables.specs.Tables.{measures}
 use Rattle.model.specs.declared.Shown.{Shown}
-use Rattle.model.specs.Fixed.{noShown}
+use Rattle.model.specs.Rows.{noShown}
 use Rattle.prediction.specs.Spectra.{shownSpectrumOf}
-use Rattle.prediction.proofs.DemandThree.{ShownSmall, shown-rows-small, shown-number, number-handed-on}
+use Rattle.prediction.specs.Sizes.{ShownSmall}
+use Rattle.prediction.proofs.DemandThree.{shown-rows-small, shown-number, number-handed-on}
 use Rattle.text.specs.declared.read.Line.{Line}
 use Rattle.text.specs.declared.read.Line.the-variants as L
 use Rattle.text.specs.Grammar.{lineOf}

@@ -10,7 +10,7 @@ use lib.Dec.{ltb}
 use lib.ListN.{length, getD, length-append}
 use Rattle.tables.specs.Tables.{measures}
 use Rattle.model.specs.declared.Shown.{Shown}
-use Rattle.model.specs.Fixed.{noShown}
+use Rattle.model.specs.Rows.{noShown}
 use Rattle.prediction.specs.declared.shown.ShownSpectrum.{ShownSpectrum}
 use Rattle.lent.specs.Lent.{Written}
 use Rattle.lent.proofs.PutLaws.{room-after, then}

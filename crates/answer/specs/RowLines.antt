@@ -7,7 +7,7 @@ use lib.Dec.{eqb}
 use lib.ListN.{getD}
 use Rattle.tables.specs.Tables.{measures}
 use Rattle.model.specs.declared.Shown.{Shown}
-use Rattle.model.specs.Fixed.{noShown}
+use Rattle.model.specs.Rows.{noShown}
 use Rattle.prediction.specs.declared.shown.ShownSpectrum.{ShownSpectrum}
 use Rattle.numerals.specs.Render.{lf, space, renderSigned, ended}
 use Rattle.lines.specs.Lines.{noLine}

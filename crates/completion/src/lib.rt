@@ -18,7 +18,8 @@ use source_stage::complete_source;
 ghost use mathlib.Core.Path.{_≡_};
 ghost use Rattle.outcome.specs.Figures.{rrup, z25};
 ghost use Rattle.outcome.specs.Refusals.{refusal};
-ghost use Rattle.outcome.specs.Answers.{sourceFigures, completed, completionOf};
+ghost use Rattle.outcome.specs.Answers.{completed, completionOf};
+ghost use Rattle.outcome.specs.Stages.{sourceFigures};
 
 // The figures of an accepted request, gathered.
 fn gathered(r: Request, s: Source, distance: Figure, depth: Figure) -> Completed

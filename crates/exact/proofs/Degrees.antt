@@ -9,6 +9,7 @@ use lib.Ieee.Fits.{and-l, and-r}
 use lib.IntN.{ℤ, pos, negsuc, negℤ, natAbs, negℤ-negℤ, _-ℤ_}
 use Rattle.exact.specs.Near.{Within}
 use Rattle.exact.specs.Exact.{E30, sinE, cosE}
+use Rattle.exact.specs.Laws.{Symmetric, Circle}
 use Rattle.exact.proofs.Computed.{run, run-from}
 use Rattle.exact.proofs.NearLaws.{within←}
 
@@ -57,11 +58,6 @@ near : (a b : ℤ) → T (apart a b) → Within 5 a b
 unfolding apart
 near a b t = within← 5 a b (leb→le (natAbs (a -ℤ b)) 5 t)
 
-pub record Symmetric (d : ℕ) : Type 0 where
-  pub sin-supplement : Within 5 (sinE (pos 180 -ℤ pos d)) (sinE (pos d))
-  pub cos-supplement : Within 5 (cosE (pos 180 -ℤ pos d)) (negℤ (cosE (pos d)))
-  pub sin-complement : Within 5 (sinE (pos 90 -ℤ pos d)) (cosE (pos d))
-
 pub symmetric : (d : ℕ) → d ≤ 180 → Symmetric d
 unfolding supplement
 symmetric d h =
@@ -72,11 +68,6 @@ symmetric d h =
       cos-supplement = near _ _ (and-l (apart (cosE (pos 180 -ℤ pos d)) (negℤ (cosE (pos d)))) _ u);
       sin-complement = near _ _ (and-r (apart (cosE (pos 180 -ℤ pos d)) (negℤ (cosE (pos d)))) _ u);
     }
-
--- sin² + cos² is 1 up to (1 ± 4 · 10^-30)², a square, so that lengths stay products
-pub record Circle (d : ℕ) : Type 0 where
-  pub low : (E30 - 4) * (E30 - 4) ≤ natAbs (sinE (pos d)) * natAbs (sinE (pos d)) + natAbs (cosE (pos d)) * natAbs (cosE (pos d))
-  pub high : natAbs (sinE (pos d)) * natAbs (sinE (pos d)) + natAbs (cosE (pos d)) * natAbs (cosE (pos d)) ≤ (E30 + 4) * (E30 + 4)
 
 pub circle : (d : ℕ) → d ≤ 180 → Circle d
 unfolding squares

@@ -7,7 +7,8 @@ use native.Mathlib.Nat.{le-trans, le-of-lt, lt-of-not-le, mul-le-mul-left, mul-l
 use lib.Dec.{lit≤}
 use lib.IntN.{ℤ, natAbs}
 use lib.Pow.{pow-pos}
-use Rattle.exact.specs.Near.{up, dn, Within, Rel}
+use Rattle.exact.specs.Near.{up, dn, Within}
+use Rattle.exact.specs.Laws.{Rel}
 use Rattle.exact.specs.Series.{expSeries, expFrom, expWhole}
 use Rattle.exact.specs.Exact.{E30, expE}
 use Rattle.exact.proofs.Signed.{abs-parts}

@@ -7,7 +7,8 @@ use native.Mathlib.Nat.{le-refl, le-trans, le-of-eq, lt-of-le-of-lt, mul-le-mul-
 use lib.Dec.{lit≤, lit<}
 use lib.IntN.{ℤ, pos, _-ℤ_}
 use lib.Pow.{pow-add}
-use Rattle.exact.specs.Near.{up, dn, Within, Rel}
+use Rattle.exact.specs.Near.{up, dn, Within}
+use Rattle.exact.specs.Laws.{Rel}
 use Rattle.exact.specs.Series.{lnUnit, ln2, lnFrom}
 use Rattle.exact.specs.Exact.{E30, lnE}
 use Rattle.exact.proofs.Signed.{sub-is}

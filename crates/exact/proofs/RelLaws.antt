@@ -3,7 +3,7 @@ use Prim.Native.Nat.{ℕ, _+_, _*_, _/_, _≤_, _<_}
 use mathlib.Core.Path.{_≡_, ap}
 use native.Mathlib.Omega.{arith}
 use native.Mathlib.Nat.{le-trans, le-of-eq, mul-le-mul-left, mul-le-mul-right, mul-assoc, mul-comm, mul-right-comm, mul-add, add-mul, le-of-mul-le-mul-right, div-mul-le-self, lt-div-mul-add}
-use Rattle.exact.specs.Near.{Rel}
+use Rattle.exact.specs.Laws.{Rel}
 
 pub rel-sym : {N ρ T a b : ℕ} → Rel N ρ T a b → Rel N ρ T b a
 rel-sym r = record { low = r .high; high = r .low }

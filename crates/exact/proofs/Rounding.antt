@@ -6,7 +6,8 @@ use native.Mathlib.Nat.{mul-comm, mul-add, div-mul-le-self, lt-div-mul-add}
 use lib.Dec.{lit≤}
 use lib.IntN.{ℤ, pos, negsuc, _*ℤ_}
 use lib.Signed.{quotZ, shrZ}
-use Rattle.exact.specs.Near.{up, dn, Whole}
+use Rattle.exact.specs.Near.{up, dn}
+use Rattle.exact.specs.Laws.{Whole}
 use Rattle.exact.specs.Exact.{E30, mulE}
 use Rattle.exact.proofs.Signed.{quot-up, quot-dn}
 

@@ -4,7 +4,7 @@ use Prim.Native.Nat.{ℕ, zero, suc, _+_, _*_, _/_, _≤_, _<_}
 use mathlib.Core.Path.{_≡_, subst}
 use native.Mathlib.Omega.{arith}
 use native.Mathlib.Nat.{le-refl, le-trans, zero-lt-suc, mul-le-mul-left, mul-le-mul-right, mul-assoc, mul-right-comm, mul-add, add-mul, zero-mul, lt-div-mul-add, div-le-self}
-use Rattle.exact.specs.Near.{Close}
+use Rattle.exact.specs.Laws.{Close}
 use Rattle.exact.specs.Series.{lnTerms, lnSeries, expTerms}
 use Rattle.exact.proofs.Quotients.{mul-small, mul-below, mul-above, quot-below, quot-above}
 use Rattle.exact.proofs.LnSeries.{lnTerms-split, lnTail, lnTail-mono, square-ninth}

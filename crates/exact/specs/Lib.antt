@@ -2,3 +2,4 @@ pub mod Series
 pub mod Root
 pub mod Exact
 pub mod Near
+pub mod Laws

@@ -11,12 +11,7 @@ abbrev pub dn : ℤ → ℕ
 dn (pos n) = 0
 dn (negsuc n) = suc n
 
--- b is at a scale K times finer than a: it is a K, or up to e K more
-pub record Close (K e a b : ℕ) : Type 0 where
-  pub low : a * K ≤ b
-  pub high : b ≤ (a + e) * K
-
--- the same of signed numbers, to either side: a K and b are at most e K apart
+-- b is at a scale K times finer than a: a K and b are at most e K apart
 pub record NearZ (K e : ℕ) (a b : ℤ) : Type 0 where
   pub low : up a * K + dn b ≤ up b + dn a * K + e * K
   pub high : up b + dn a * K ≤ up a * K + dn b + e * K
@@ -25,13 +20,3 @@ pub record NearZ (K e : ℕ) (a b : ℤ) : Type 0 where
 pub record Within (e : ℕ) (a b : ℤ) : Type 0 where
   pub low : up a + dn b ≤ up b + dn a + e
   pub high : up b + dn a ≤ up a + dn b + e
-
--- each of a and b is at most the other times 1 + ρ/N, and T/N more
-pub record Rel (N ρ T a b : ℕ) : Type 0 where
-  pub low : a * N ≤ b * (N + ρ) + T
-  pub high : b * N ≤ a * (N + ρ) + T
-
--- q is b/D rounded to a whole number, up or down
-pub record Whole (D : ℕ) (q b : ℤ) : Type 0 where
-  pub low : D * up q + dn b ≤ up b + D * dn q + D
-  pub high : up b + D * dn q ≤ D * up q + dn b + D

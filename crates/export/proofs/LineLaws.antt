@@ -15,7 +15,7 @@ use Rattle.outcome.specs.declared.Completion.the-variants as C
 use Rattle.outcome.specs.Answers.{completionOf}
 use Rattle.tables.specs.Tables.{measures}
 use Rattle.model.specs.declared.Shown.{Shown}
-use Rattle.model.specs.Fixed.{noShown}
+use Rattle.model.specs.Rows.{noShown}
 use Rattle.prediction.specs.declared.shown.ShownSpectrum.{ShownSpectrum}
 use Rattle.prediction.specs.Spectra.{shownSpectrumOf}
 use Rattle.lent.specs.declared.Wrote.{Wrote}

@@ -13,7 +13,8 @@ use Rattle.outcome.specs.declared.Completed.{Completed}
 use Rattle.outcome.specs.declared.Completion.the-variants as C
 use Rattle.outcome.specs.Answers.{completionOf, numberOf}
 use Rattle.outcome.proofs.ExactlyWhen.{number-is, accepted-by}
-use Rattle.model.specs.Fixed.{rowFixed, shownOf}
+use Rattle.model.specs.Fixed.{rowFixed}
+use Rattle.model.specs.Rows.{shownOf}
 use Rattle.text.specs.declared.read.Line.{Line}
 use Rattle.text.specs.declared.read.Line.the-variants as L
 use Rattle.prediction.specs.declared.measure.OneMeasure.{OneMeasure}

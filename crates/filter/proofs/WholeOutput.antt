@@ -3,9 +3,9 @@ use Prim.Native.Nat.{ℕ}
 use mathlib.Core.Path.{_≡_, ap}
 use mathlib.Core.List.{List, [], _++_, append-nil}
 use Rattle.answer.specs.declared.Sheet.{Sheet}
-use Rattle.lists.specs.Parts.{newReader}
+use Rattle.lists.specs.Parts.{newReader, Answered}
 use Rattle.lists.specs.Whole.{ending, answersFrom, answersTo}
-use Rattle.lists.proofs.WholeList.{Answered, answered-whole}
+use Rattle.lists.proofs.WholeList.{answered-whole}
 use Rattle.filter.specs.Output.{headerOf, outputTo}
 
 -- the header, then the texts that a reader writes for a list offered in parts and at the close

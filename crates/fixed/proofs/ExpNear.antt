@@ -9,7 +9,8 @@ use native.Mathlib.Nat.{le-refl, le-trans, le-of-eq, le-of-lt, lt-of-lt-of-le, m
 use lib.Dec.{lit≤}
 use lib.Arith.{digits-div, digits-mod}
 use lib.IntN.{ℤ, pos, _*ℤ_}
-use Rattle.exact.specs.Near.{up, dn, Close, Rel}
+use Rattle.exact.specs.Near.{up, dn}
+use Rattle.exact.specs.Laws.{Close, Rel}
 use Rattle.exact.specs.Series.{expTerms, expSeries, expFrom}
 use Rattle.exact.specs.Exact.{E30, expE}
 use Rattle.exact.proofs.Signed.{mul-up, mul-dn}

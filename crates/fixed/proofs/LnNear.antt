@@ -10,7 +10,8 @@ use native.Mathlib.Nat.{le-trans, le-of-eq, le-of-lt, lt-of-lt-of-le, lt-of-le-o
 use lib.Dec.{lit≤, lit<}
 use lib.IntN.{ℤ, pos, _-ℤ_}
 use lib.Pow.{pow-pos}
-use Rattle.exact.specs.Near.{up, dn, Close, NearZ}
+use Rattle.exact.specs.Near.{up, dn, NearZ}
+use Rattle.exact.specs.Laws.{Close}
 use Rattle.exact.specs.Series.{lnTerms, lnSeries, lnUnit, lnHalving, lnFrom}
 use Rattle.exact.specs.Exact.{E30, lnE}
 use Rattle.exact.proofs.Signed.{sub-is}

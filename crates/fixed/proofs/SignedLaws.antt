@@ -6,10 +6,12 @@ use native.Mathlib.Omega.{arith}
 use native.Mathlib.Nat.{div-eq-of-lt, zero-div, mul-zero, mul-comm, lt-div-mul-add, div-mul-le-self}
 use lib.IntN.{ℤ, pos, negsuc, negℤ, natAbs, negℤ-negℤ, _*ℤ_}
 use lib.Signed.{quotZ}
-use Rattle.exact.specs.Near.{up, dn, Whole}
+use Rattle.exact.specs.Near.{up, dn}
+use Rattle.exact.specs.Laws.{Whole}
 use Rattle.exact.proofs.Signed.{same-parts, neg-up, neg-dn, mul-up, mul-dn, mul-abs, quot-abs, abs-parts}
 use Rattle.exact.proofs.Rounding.{quot-whole}
 use Rattle.fixed.specs.Fixed.{mulDiv, nearest}
+use Rattle.fixed.specs.Bounds.{Halfway}
 
 -- ---- a b / d toward zero
 -- within one of the quotient
@@ -57,11 +59,6 @@ nearest-odd (pos zero) d h = rw (div-eq-of-lt (half d h))
     half d h = omega arith
 nearest-odd (pos (suc n)) d h = refl
 nearest-odd (negsuc n) d h = sym (negℤ-negℤ (pos ((suc n + d / 2) / d)))
-
--- twice the distance is at most d
-pub record Halfway (d : ℕ) (q a : ℤ) : Type 0 where
-  pub low : 2 * (d * up q) + 2 * dn a ≤ 2 * up a + 2 * (d * dn q) + d
-  pub high : 2 * up a + 2 * (d * dn q) ≤ 2 * (d * up q) + 2 * dn a + d
 
 half-core : (n d : ℕ) → 0 < d → (2 * (d * ((n + d / 2) / d)) ≤ 2 * n + d) × (2 * n ≤ 2 * (d * ((n + d / 2) / d)) + d)
 half-core n d h =

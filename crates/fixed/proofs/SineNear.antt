@@ -11,6 +11,7 @@ use Rattle.exact.specs.Exact.{sinE, cosE}
 use Rattle.exact.proofs.Computed.{run, run-from}
 use Rattle.exact.proofs.NearLaws.{near←}
 use Rattle.fixed.specs.Fixed.{E9, K21, sinFixed, cosFixed}
+use Rattle.fixed.specs.Bounds.{Sine}
 
 -- a is from 0 to 1 and within 2 units of b
 good : ℤ → ℤ → Bool
@@ -23,11 +24,6 @@ test d = good (sinFixed d) (sinE (pos d)) && good (cosFixed d) (pos (natAbs (cos
 all : T (run test 0 181)
 unfolding test
 all = tt
-
-pub record Sine (a b : ℤ) : Type 0 where
-  pub top : up a ≤ E9
-  pub positive : dn a ≤ 0
-  pub near : NearZ K21 2 a b
 
 sine : (a b : ℤ) → T (good a b) → Sine a b
 unfolding good

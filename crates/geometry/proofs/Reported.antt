@@ -19,8 +19,8 @@ use Rattle.exact.specs.Exact.{E30}
 use Rattle.exact.specs.Near.{NearZ, dn}
 use Rattle.exact.proofs.Root.{root-is, side-lt}
 use Rattle.exact.proofs.Signed.{by-sign, abs-parts, lt-parts, le-parts}
-use Rattle.geometry.specs.Geometry.{rPrime, rrup, cosSize, rrupE, hangingWallE, ceilRoot, onHangingWall, ruptureDistanceE}
-use Rattle.geometry.specs.Fixed.{RuptureInRange, cos9, siteFixed, fromPlanFixed, hangingWallFixed, larger, ruptureDistance}
+use Rattle.geometry.specs.Geometry.{rPrime, rrup, cosSize, rrupE, hangingWallE, ceilRoot, onHangingWall, ruptureDistanceE, RuptureInRange}
+use Rattle.geometry.specs.Fixed.{cos9, siteFixed, fromPlanFixed, hangingWallFixed, larger, ruptureDistance}
 use Rattle.geometry.specs.declared.Place.{Place}
 use Rattle.geometry.proofs.Lengths.{square-mono, side-le, triangle}
 use Rattle.geometry.proofs.Scales.{Scale, Near, metres, width-near}

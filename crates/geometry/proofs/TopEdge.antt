@@ -12,8 +12,8 @@ use lib.IntN.{ℤ, pos, negsuc}
 use Rattle.exact.specs.Root.{root, IsRoot}
 use Rattle.exact.specs.Exact.{E30}
 use Rattle.exact.proofs.Root.{root-is, root-one, side-lt}
-use Rattle.geometry.specs.Geometry.{tangent, rx, ry, rPrime, rrup, sinSize, cosSize, rrupE, hangingWallE, ceilRoot, onHangingWall, ruptureDistanceE}
-use Rattle.geometry.specs.Fixed.{RuptureInRange, sin9, cos9, projectedWidthFixed, siteFixed, offPlaneFixed, offEdgesFixed, rrupFixed, fromPlanFixed, hangingWallFixed, larger, ruptureDistance}
+use Rattle.geometry.specs.Geometry.{tangent, rx, ry, rPrime, rrup, sinSize, cosSize, rrupE, hangingWallE, ceilRoot, onHangingWall, ruptureDistanceE, RuptureInRange}
+use Rattle.geometry.specs.Fixed.{sin9, cos9, projectedWidthFixed, siteFixed, offPlaneFixed, offEdgesFixed, rrupFixed, fromPlanFixed, hangingWallFixed, larger, ruptureDistance}
 use Rattle.geometry.specs.declared.Place.{Place}
 use Rattle.exact.proofs.Quotients.{cancel}
 use Rattle.geometry.proofs.Lengths.{square-mul, square-mono, side-le}

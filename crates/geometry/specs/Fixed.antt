@@ -1,6 +1,6 @@
 -- What the 64-bit functions of `rupture` give, sines and cosines in units of 10^-9: the plan in tenths of a millimetre, the section in
 -- millimetres, what is reported in metres. Definitions only.
-use Prim.Native.Nat.{ℕ, _+_, _-_, _*_, _/_, _≤_}
+use Prim.Native.Nat.{ℕ, _+_, _-_, _*_, _/_}
 use mathlib.Core.Bool.{Bool, true, false, cond}
 use lib.Dec.{eqb, leb}
 use lib.IntN.{ℤ, natAbs}
@@ -8,15 +8,6 @@ use Rattle.exact.specs.Root.{root}
 use Rattle.fixed.specs.Fixed.{E9, sinFixed, cosFixed}
 use Rattle.geometry.specs.Geometry.{ceilRoot, onHangingWall}
 use Rattle.geometry.specs.declared.Place.{Place}
-
--- the ranges, in degrees and metres; the azimuth may be any number, since its size is used on the hanging wall only
-pub record RuptureInRange (dip w ztor rjb : ℕ) : Type 0 where
-  pub dip-low : 15 ≤ dip
-  pub dip-high : dip ≤ 90
-  pub w-low : 1 ≤ w
-  pub w-high : w ≤ 100000
-  pub ztor-high : ztor ≤ 15000
-  pub rjb-high : rjb ≤ 200000
 
 -- the sizes of sine and cosine
 unfoldable pub sin9 : ℕ → ℕ

@@ -2,7 +2,7 @@
 -- W, ZTOR and RJB are whole metres; RX, RY, R' and RRUP are whole numbers of 1/S m. sd and cd are the sizes of the sine and the
 -- cosine of the dip, sa and ca those of the azimuth a, in units of 1/S. Each division and each root is rounded down; a square under
 -- a root is not divided. Definitions only.
-use Prim.Native.Nat.{ℕ, _+_, _-_, _*_, _/_}
+use Prim.Native.Nat.{ℕ, _+_, _-_, _*_, _/_, _≤_}
 use mathlib.Core.Bool.{Bool, true, false, cond, _&&_}
 use lib.Dec.{eqb, leb, ltb}
 use lib.IntN.{ℤ, pos, natAbs}
@@ -97,3 +97,12 @@ ruptureDistanceE dip azimuth w ztor rjb =
       | true ↦ hangingWallE dip (natAbs azimuth) w ztor rjb
       | false ↦ ceilRoot (rjb * rjb + ztor * ztor) * E30
     ]
+
+-- the figures of which it is promised, in degrees and metres; the azimuth may be any number, since its size is used on the hanging wall only
+pub record RuptureInRange (dip w ztor rjb : ℕ) : Type 0 where
+  pub dip-low : 15 ≤ dip
+  pub dip-high : dip ≤ 90
+  pub w-low : 1 ≤ w
+  pub w-high : w ≤ 100000
+  pub ztor-high : ztor ≤ 15000
+  pub rjb-high : rjb ≤ 200000

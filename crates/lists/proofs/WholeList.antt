@@ -17,7 +17,7 @@ use Rattle.answer.specs.declared.Sheet.{Sheet}
 use Rattle.answer.specs.Sheets.{answerTo}
 use Rattle.lists.specs.declared.Reader.{Reader}
 use Rattle.lists.specs.Whole.{answersFrom, answersTo}
-use Rattle.lists.specs.Parts.{lineIn, newReader, fresh, grown, closing, Stand, readFrom}
+use Rattle.lists.specs.Parts.{lineIn, newReader, fresh, grown, closing, Stand, readFrom, Answered, closed, offered}
 use Rattle.lists.proofs.HeldLaws.{held-over, held-whole, over-answer}
 use Rattle.lists.proofs.PartLaws.{grown-held, grown-over}
 
@@ -134,14 +134,6 @@ module _ (sheet : Sheet) (room : ℕ) (s : List ℕ) where
       go false b f g = g
 
 -- ---- a whole list
--- the texts that a reader writes for a list offered in parts, the bytes left of each offered again with what follows, and at the close
-pub data Answered (sheet : Sheet) : Reader → List ℕ → List ℕ → Type 0 where
-  closed : (r : Reader) → Answered sheet r [] (closing r)
-  offered :
-      (room : ℕ) (r : Reader) (part s text : List ℕ)
-      → Answered sheet (readFrom sheet room r [] part .reader) (readFrom sheet room r [] part .left ++ s) text
-      → Answered sheet r (part ++ s) (readFrom sheet room r [] part .text ++ text)
-
 answered-from : {sheet : Sheet} {r : Reader} {s text : List ℕ} → length (r .held) ≡ longest → Answered sheet r s text → text ≡ answersFrom sheet (lineIn r) s
 unfolding closing answersFrom
 answered-from {sheet} h (closed r) = refl

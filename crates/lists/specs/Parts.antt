@@ -66,3 +66,12 @@ pub record PartTaken (sheet : Sheet) (r : Reader) (part b : List ℕ) (t : Taken
   pub took : t .took + length (readFrom sheet (length b) r [] part .left) ≡ length part
   pub wrote : t .wrote ≡ length (readFrom sheet (length b) r [] part .text)
   pub bytes : b₁ ≡ put b 0 (readFrom sheet (length b) r [] part .text)
+
+-- ---- a list in parts
+-- the texts that a reader writes for a list offered in parts, the bytes left of each offered again with what follows, and at the close
+pub data Answered (sheet : Sheet) : Reader → List ℕ → List ℕ → Type 0 where
+  closed : (r : Reader) → Answered sheet r [] (closing r)
+  offered :
+      (room : ℕ) (r : Reader) (part s text : List ℕ)
+      → Answered sheet (readFrom sheet room r [] part .reader) (readFrom sheet room r [] part .left ++ s) text
+      → Answered sheet r (part ++ s) (readFrom sheet room r [] part .text ++ text)

@@ -10,7 +10,8 @@ use native.Mathlib.Omega.{arith}
 use native.Mathlib.Nat.{le-refl, le-trans, mul-le-mul-left, mul-le-mul-right, mul-assoc, mul-comm, mul-left-comm, mul-add, add-mul, le-of-mul-le-mul-left, le-of-mul-le-mul-right, div-mul-le-self, lt-div-mul-add, div-le-of-le-mul, le-add-left, le-of-lt, zero-mul, add-le-add, le-add-right, le-of-eq}
 use lib.Dec.{ltb, lit≤}
 use lib.IntN.{ℤ, pos, negsuc, natAbs, _-ℤ_, _*ℤ_}
-use Rattle.exact.specs.Near.{up, dn, NearZ, Within, Rel}
+use Rattle.exact.specs.Near.{up, dn, NearZ, Within}
+use Rattle.exact.specs.Laws.{Rel}
 use Rattle.exact.specs.Exact.{E30, mulE}
 use Rattle.fixed.specs.Fixed.{E9, K21, mulDiv}
 use Rattle.tables.specs.declared.Coefficients.{Coefficients}
@@ -18,7 +19,8 @@ use Rattle.model.proofs.Curve.{Paired, curve-low-fixed, curve-low, curv
 use Rattle.model.specs.Fixed.{siteCFixed, alphaFixed, curveFixed}
 use Rattle.model.proofs.SiteNear.{RockNear, soft-rel, hard-rel, paired}
 use Rattle.model.specs.Equations.{alpha, siteC, times, curve}
-use Rattle.model.proofs.Between.{Between, between-wide, share-nothing, between-share, between-turned}
+use Rattle.model.specs.FineNear.{Between}
+use Rattle.model.proofs.Between.{between-wide, share-nothing, between-share, between-turned}
 use Rattle.model.proofs.Quotients.{rest-near, ratio-near}
 use Rattle.exact.proofs.Rounding.{mulE-whole, floor-whole}
 use Rattle.model.proofs.Fair.{Fair}

@@ -9,7 +9,8 @@ use native.Mathlib.Decide.{decLe}
 use native.Mathlib.Nat.{le-refl, le-trans, mul-le-mul-left, mul-le-mul-right, mul-assoc, mul-comm, mul-right-comm, mul-add, add-mul, mul-zero, zero-mul, div-one, le-of-mul-le-mul-right}
 use lib.Dec.{ltb, leb, lit≤}
 use lib.IntN.{ℤ, pos, negℤ, _*ℤ_, _-ℤ_}
-use Rattle.exact.specs.Near.{up, dn, NearZ, Rel}
+use Rattle.exact.specs.Near.{up, dn, NearZ}
+use Rattle.exact.specs.Laws.{Rel}
 use Rattle.exact.specs.Exact.{E30, expE}
 use Rattle.exact.proofs.NearLaws.{near-wide}
 use Rattle.fixed.specs.Fixed.{E9, K20, K21, mulDiv, expFixed}

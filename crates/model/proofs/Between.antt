@@ -12,10 +12,7 @@ use Rattle.exact.proofs.Signed.{by-sign, add-parts, mul-up, mul-dn, same-parts,
 use Rattle.exact.proofs.Quotients.{div-le}
 use Rattle.exact.proofs.LnExact.{lnE-mono}
 use Rattle.exact.specs.Exact.{lnE}
-
-pub record Between (lo hi a : ℤ) : Type 0 where
-  pub low : up lo + dn a ≤ up a + dn lo
-  pub high : up a + dn hi ≤ up hi + dn a
+use Rattle.model.specs.FineNear.{Between}
 
 -- a number lies at itself
 pub between-self : (a : ℤ) → Between a a a

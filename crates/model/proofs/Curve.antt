@@ -10,11 +10,13 @@ use native.Mathlib.Nat.{le-trans, mul-le-mul-left, mul-le-mul-right, mul-assoc, 
 use lib.Dec.{lit≤}
 use lib.IntN.{ℤ, pos, natAbs, _*ℤ_, negsuc}
 use lib.Ieee.Nearest.{div-mono}
-use Rattle.exact.specs.Near.{up, dn, NearZ, Rel, Whole}
+use Rattle.exact.specs.Near.{up, dn, NearZ}
+use Rattle.exact.specs.Laws.{Rel, Whole}
 use Rattle.exact.specs.Exact.{E30, lnE, expE, mulE, powE}
 use Rattle.fixed.specs.Fixed.{E9, K20, K21, mulDiv, lnQuotient, expFixed}
 use Rattle.fixed.proofs.LnNear.{lnQuotient-near}
-use Rattle.model.proofs.Between.{Between, near-between, between-wide, floor-order, between-ln, mul-up-order}
+use Rattle.model.specs.FineNear.{Between}
+use Rattle.model.proofs.Between.{near-between, between-wide, floor-order, between-ln, mul-up-order}
 use Rattle.model.specs.Equations.{siteN, E27, curve, siteC}
 use Rattle.fixed.proofs.SignedLaws.{mulDiv-abs, mulDiv-whole}
 use Rattle.model.specs.Fixed.{curveFixed, siteCFixed}

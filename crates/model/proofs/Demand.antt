@@ -17,13 +17,13 @@ use Rattle.model.specs.Accuracy.{InRange, exactOf, Accurate}
 use Rattle.exact.proofs.Signed.{by-sign}
 use Rattle.model.specs.Fixed.{squaredFixed, alphaFixed, varianceFixed, fineFixed, rowFixed, rockPGAFixed, intraVarianceFixed, FineInRange}
 use Rattle.model.proofs.Alpha.{alpha-near, alphaLow, alpha-between}
-use Rattle.model.proofs.Between.{Between}
+use Rattle.model.specs.FineNear.{Between, RootNear, FineNear}
 use Rattle.model.proofs.SigmaNear.{joined-near}
 use Rattle.model.proofs.Variance.{square-root, variance-near, variance-high, variance-low}
 use Rattle.model.proofs.Fair.{fair-at, spread-at}
 use Rattle.model.proofs.Median.{rock-is-near, lnMedian-near, lnMedian-between, lnMedian-size}
 use Rattle.model.proofs.Quotients.{pos-low}
-use Rattle.model.proofs.Reported.{RootNear, FineNear, report-accurate}
+use Rattle.model.proofs.Reported.{report-accurate}
 use Rattle.exact.proofs.NearLaws.{near-wide}
 
 -- a number near one that is 0.09 or more is not negative, and at least 0.089999

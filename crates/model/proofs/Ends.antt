@@ -15,7 +15,8 @@ use Rattle.request.specs.declared.Style.{Style}
 use Rattle.request.specs.declared.Style.the-variants.{StrikeSlip, Reverse, Normal}
 use Rattle.tables.specs.declared.Coefficients.{Coefficients}
 use Rattle.model.specs.declared.Scenario.{Scenario}
-use Rattle.model.proofs.Between.{Between, between-self, between-turned, mul-up-order, around, mul-nothing, share-nothing, between-share, between-up, between-below, between-above, between-wide, between-ln, between-add}
+use Rattle.model.specs.FineNear.{Between}
+use Rattle.model.proofs.Between.{between-self, between-turned, mul-up-order, around, mul-nothing, share-nothing, between-share, between-up, between-below, between-above, between-wide, between-ln, between-add}
 use Rattle.model.specs.Equations.{fDis, fFlt, E24, fMag, slope, E27, fFltZ, fSed, deep, times, lnMedianAt, fSite}
 use Rattle.model.proofs.Fair.{Fair}
 use Rattle.model.proofs.TermsNear.{slope-sign}

@@ -21,8 +21,9 @@ use Rattle.model.specs.declared.Scenario.{Scenario}
 use Rattle.model.specs.Equations.{siteC, times, fSite, linear, E27, fMag, curve, least, E24, lnMedian, rockPGA, lnMedianAt}
 use Rattle.model.proofs.Curve.{Paired, minusTwo, curve-low, below-between, curve-high}
 use Rattle.model.proofs.Fair.{leAll, LeAll, Fair, le-all, fair-at}
-use Rattle.model.proofs.Between.{Between, share-nothing, between-share, between-add, between-turned, between-sub, between-ln, between-wide, near-between}
-use Rattle.model.proofs.Rock.{order, minusFifteen, rock-near, rock-top-fixed, rock-top}
+use Rattle.model.specs.FineNear.{Between, minusFifteen}
+use Rattle.model.proofs.Between.{share-nothing, between-share, between-add, between-turned, between-sub, between-ln, between-wide, near-between}
+use Rattle.model.proofs.Rock.{order, rock-near, rock-top-fixed, rock-top}
 use borrow.Author.Tests.{lt-ltb, le-ltb, ltb-true, ltb-false}
 use Rattle.model.proofs.SiteNear.{least-by, RockNear, lnMedianAt-near, paired}
 use Rattle.model.proofs.Ends.{lowEnd, highEnd, farEnd, distance-between, sum-between}

@@ -8,7 +8,8 @@ use native.Mathlib.Omega.{arith}
 use native.Mathlib.Nat.{le-trans, le-of-eq, add-comm, mul-le-mul-left, mul-le-mul-right, mul-assoc, mul-comm, mul-add, add-mul, mul-zero, zero-mul, mul-mul-mul-comm, mul-pos, le-of-mul-le-mul-left, lt-div-mul-add}
 use lib.IntN.{ℤ, pos, negsuc, negℤ, natAbs, _+ℤ_, _-ℤ_, _*ℤ_}
 use lib.Signed.{shrZ}
-use Rattle.exact.specs.Near.{up, dn, NearZ, Whole}
+use Rattle.exact.specs.Near.{up, dn, NearZ}
+use Rattle.exact.specs.Laws.{Whole}
 use Rattle.exact.proofs.Signed.{abs-parts, add-parts, neg-up, neg-dn, mul-up, mul-dn}
 use Rattle.exact.proofs.Rounding.{floor-whole}
 use Rattle.fixed.specs.Fixed.{mulDiv}

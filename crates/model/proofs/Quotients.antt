@@ -6,7 +6,8 @@ use mathlib.Core.Path.{_≡_, sym, ap, _∙_}
 use native.Mathlib.Omega.{arith}
 use native.Mathlib.Nat.{le-trans, le-of-eq, mul-le-mul-left, mul-le-mul-right, mul-assoc, mul-comm, mul-left-comm, mul-right-comm, mul-add, add-mul, mul-pos, zero-mul, le-of-mul-le-mul-right, lt-of-mul-lt-mul-right, div-mul-le-self, lt-div-mul-add, div-le-of-le-mul}
 use lib.IntN.{pos}
-use Rattle.exact.specs.Near.{NearZ, Rel}
+use Rattle.exact.specs.Near.{NearZ}
+use Rattle.exact.specs.Laws.{Rel}
 
 -- ---- numbers without a sign
 pub near-pos : {K e : ℕ} (a b : ℕ) → a * K ≤ b + e * K → b ≤ a * K + e * K → NearZ K e (pos a) (pos b)

@@ -15,14 +15,14 @@ use Rattle.fixed.specs.Fixed.{E9, K20, K21, nearest, expFixed}
 use Rattle.model.specs.declared.Fine.{Fine}
 use Rattle.fixed.proofs.SignedLaws.{nearest-half}
 use Rattle.exact.proofs.ExpExact.{expE-near, expE-mono}
-use Rattle.model.proofs.Rock.{minusFifteen}
+use Rattle.model.specs.FineNear.{minusFifteen, Between, RootNear, FineNear}
 use Rattle.model.specs.Accuracy.{Exact, Accurate}
 use Rattle.exact.proofs.RelLaws.{chain}
 use Rattle.exact.proofs.NearLaws.{near→within}
 use Rattle.model.specs.Equations.{most, E24, E27}
 use Rattle.model.specs.Fixed.{sigmaOf, report}
 use Rattle.fixed.proofs.ExpNear.{expFixed-near}
-use Rattle.model.proofs.Between.{Between, near-between}
+use Rattle.model.proofs.Between.{near-between}
 use Rattle.model.proofs.NearSums.{near-exact}
 use Rattle.model.proofs.SigmaNear.{sigma-near}
 use Rattle.model.proofs.WallNear.{most-by}
@@ -154,25 +154,9 @@ module _ (s x : ℤ) (n : NearZ K21 400 s x) (b : Between minusFifteen (pos (13 
       go p k = omega arith
 
 -- ---- a row
--- v is at least 0.089999 and within 298 units of a number of which s is the exact root
-pub record RootNear (v s : ℕ) : Type 0 where
-  pub under : ℕ
-  pub is : s ≡ rootE under
-  pub near : NearZ K21 298 (pos v) (pos under)
-  pub least : 89999000 ≤ v
-
 pub sigma-reported : (v s : ℕ) → RootNear v s → NearZ E24 1 (pos (sigmaOf v)) (pos s)
 sigma-reported v s n =
     subst (λ (t : ℕ). NearZ E24 1 (pos (sigmaOf v)) (pos t)) (sym (n .is)) (sigma-near 298 v (n .under) (lit≤ tt) (n .least) (n .near))
-
-pub record FineNear (e : Exact) (f : Fine) : Type 0 where
-  pub ln-near : NearZ K21 400 (f .ln) (e .ln)
-  pub ln-between : Between minusFifteen (pos (13 * E30)) (e .ln)
-  pub median-is : e .median ≡ expE (e .ln)
-  pub intra : RootNear (f .intra) (e .intra)
-  pub inter-is : e .inter ≡ f .t * E27
-  pub total : RootNear (f .total) (e .total)
-  pub arbitrary : RootNear (f .arbitrary) (e .arbitrary)
 
 pub report-accurate : (e : Exact) (f : Fine) → FineNear e f → Accurate e (report f)
 unfolding report

@@ -10,7 +10,8 @@ use native.Mathlib.Omega.{arith}
 use lib.Dec.{T, lit≤}
 use lib.IntN.{ℤ, pos, negsuc, _*ℤ_}
 use lib.Signed.{shrZ}
-use Rattle.exact.specs.Near.{up, dn, NearZ, Rel}
+use Rattle.exact.specs.Near.{up, dn, NearZ}
+use Rattle.exact.specs.Laws.{Rel}
 use Rattle.exact.specs.Exact.{E30, lnE, expE}
 use Rattle.exact.proofs.Computed.{run, run-from}
 use Rattle.tables.specs.Tables.{PGA, table2, coefficientsAt}
@@ -20,7 +21,8 @@ use Rattle.model.proofs.Fair.{Fair, leAll, restErr, fair-at, linearErr,
 use Rattle.model.specs.Equations.{E24, E27, linear, fSite, fMag, rockPGA, times, lnMedianAt}
 use Rattle.model.specs.Accuracy.{InRange}
 use Rattle.model.specs.Fixed.{fSiteFixed, rockPGAFixed, lnMedianAtFixed}
-use Rattle.model.proofs.Between.{Between, between-turned, near-between, between-wide}
+use Rattle.model.specs.FineNear.{Between, minusFifteen}
+use Rattle.model.proofs.Between.{between-turned, near-between, between-wide}
 use native.Mathlib.Nat.{le-trans, div-one}
 use Rattle.model.proofs.Through.{rel-most, rel-cut, exp-through}
 use Rattle.model.proofs.Ends.{lowEnd, highEnd, sum-between, distance-between}
@@ -59,9 +61,6 @@ rock-site a = between-turned 100000 (linear (coefficientsAt PGA)) refl rock-quot
 -- a is at most b, as a pair of a list of orders
 abbrev pub order : ℤ → ℤ → ℕ × ℕ
 order a b = (up a + dn b, up b + dn a)
-
-abbrev pub minusFifteen : ℤ
-minusFifteen = negsuc 14_999999_999999_999999_999999_999999
 
 c6-is : 5600 ≤ coefficientsAt PGA .c6
 unfolding coefficientsAt table2

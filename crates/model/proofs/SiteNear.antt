@@ -11,7 +11,8 @@ use native.Mathlib.Nat.{le-trans, mul-le-mul-right, mul-comm, mul-add, add-mul}
 use lib.Dec.{ltb, lit≤}
 use lib.IntN.{pos, _+ℤ_, _-ℤ_, _*ℤ_}
 use lib.Signed.{shrZ}
-use Rattle.exact.specs.Near.{NearZ, Rel}
+use Rattle.exact.specs.Near.{NearZ}
+use Rattle.exact.specs.Laws.{Rel}
 use Rattle.exact.specs.Exact.{E30, lnE}
 use Rattle.fixed.specs.Fixed.{E9, K21, mulDiv, lnFixed, lnQuotient}
 use Rattle.tables.specs.declared.Coefficients.{Coefficients}

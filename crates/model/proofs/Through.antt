@@ -8,7 +8,8 @@ use native.Mathlib.Omega.{arith}
 use native.Mathlib.Nat.{le-trans, le-of-lt, lt-of-lt-of-le, mul-le-mul-left, mul-le-mul-right, mul-assoc, mul-comm, mul-left-comm, mul-add, add-mul, one-mul, le-of-mul-le-mul-left, div-mul-le-self, lt-div-mul-add, le-of-mul-le-mul-right, mul-right-comm}
 use lib.Dec.{lit≤}
 use lib.IntN.{ℤ, pos, _*ℤ_}
-use Rattle.exact.specs.Near.{up, dn, NearZ, Rel}
+use Rattle.exact.specs.Near.{up, dn, NearZ}
+use Rattle.exact.specs.Laws.{Rel}
 use Rattle.exact.specs.Exact.{E30, lnE, expE}
 use Rattle.exact.proofs.NearLaws.{near-within, near→within}
 use Rattle.exact.proofs.RelLaws.{rel-wide, rel-trans}

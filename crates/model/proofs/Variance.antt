@@ -19,7 +19,8 @@ use Rattle.tables.specs.declared.Deviations.{Deviations}
 use Rattle.tables.specs.Tables.{PGA, table3, deviationsAt}
 use Rattle.model.specs.Fixed.{atBaseFixed, crossFixed, intraVarianceFixed}
 use Rattle.model.specs.Equations.{atBase, times, E24, intraVariance}
-use Rattle.model.proofs.Between.{Between, between-wide, near-between, share-nothing, between-dn, between-share, between-up}
+use Rattle.model.specs.FineNear.{Between}
+use Rattle.model.proofs.Between.{between-wide, near-between, share-nothing, between-dn, between-share, between-up}
 use Rattle.model.proofs.Fair.{Spread}
 use Rattle.model.proofs.Alpha.{alphaLow}
 use Rattle.exact.proofs.NearLaws.{near-wide, near-within}

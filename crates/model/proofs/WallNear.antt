@@ -25,7 +25,8 @@ use Rattle.tables.specs.declared.Coefficients.{Coefficients}
 use Rattle.model.proofs.Quotients.{rest-near, ratio-same, near-pos}
 use Rattle.model.proofs.NearSums.{shareErr, near-share}
 use Rattle.model.specs.Accuracy.{InRange}
-use Rattle.model.proofs.Between.{Between, between-share}
+use Rattle.model.specs.FineNear.{Between}
+use Rattle.model.proofs.Between.{between-share}
 
 -- ---- R/D and R M/X, where X is D M or up to M more: q and q' are the quotients
 high-core : (N K M R D X q q' : ℕ) → 0 < M → 0 < D → D * M ≤ X → R * N < q * D + D → q' * X ≤ R * M * (N * K) → q' ≤ (q + 1) * K

@@ -2,10 +2,9 @@
 use Prim.Native.Nat.{ℕ, _+_, _*_, _≤_}
 use lib.IntN.{ℤ, pos}
 use Rattle.exact.specs.Near.{NearZ}
-use Rattle.fixed.specs.Fixed.{K20}
 use Rattle.model.specs.declared.Scenario.{Scenario}
 use Rattle.model.specs.declared.Row.{Row}
-use Rattle.model.specs.Equations.{E24, lnMedian, median, intra, inter, total, arbitrary}
+use Rattle.model.specs.Equations.{E24, E20, lnMedian, median, intra, inter, total, arbitrary}
 
 -- the ranges of an accepted request's completed figures
 pub record InRange (x : Scenario) : Type 0 where
@@ -47,8 +46,8 @@ exactOf i x =
 pub record Accurate (e : Exact) (r : Row) : Type 0 where
   pub ln-near : NearZ E24 1 (r .ln) (e .ln)
   pub median-one : 1 ≤ r .median
-  pub median-low : 500000 * (r .median * K20) ≤ 500000 * e .median + 500000 * K20 + e .median
-  pub median-high : 500000 * e .median ≤ 500000 * (r .median * K20) + 500000 * K20 + e .median
+  pub median-low : 500000 * (r .median * E20) ≤ 500000 * e .median + 500000 * E20 + e .median
+  pub median-high : 500000 * e .median ≤ 500000 * (r .median * E20) + 500000 * E20 + e .median
   pub intra-near : NearZ E24 1 (pos (r .intra)) (pos (e .intra))
   pub inter-near : NearZ E24 0 (pos (r .inter)) (pos (e .inter))
   pub total-near : NearZ E24 1 (pos (r .total)) (pos (e .total))

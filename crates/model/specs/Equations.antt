@@ -17,7 +17,7 @@ use Rattle.tables.specs.Tables.{PGA, coefficientsAt, deviationsAt}
 use Rattle.model.specs.declared.Scenario.{Scenario}
 
 -- ---- units
--- 10^-2, 10^-3, 10^-5 and 10^-6
+-- 10^-2, 10^-3, 10^-5, 10^-6 and 10^-10
 abbrev pub E28 : ℕ
 E28 = 10_000000_000000_000000_000000_000
 
@@ -29,6 +29,9 @@ E25 = 10_000000_000000_000000_000000
 
 abbrev pub E24 : ℕ
 E24 = 1_000000_000000_000000_000000
+
+abbrev pub E20 : ℕ
+E20 = 100_000000_000000_000000
 
 -- a coefficient times a number
 unfoldable pub times : ℤ → ℤ → ℤ

@@ -17,7 +17,6 @@ use Rattle.tables.specs.Tables.{PGA, coefficientsAt, deviationsAt}
 use Rattle.model.specs.declared.Scenario.{Scenario}
 use Rattle.model.specs.declared.Fine.{Fine}
 use Rattle.model.specs.declared.Row.{Row}
-use Rattle.model.specs.declared.Shown.{Shown}
 use Rattle.model.specs.Equations.{byMagnitude, slope, c100, n100, linear, lnAF, least, most, fFltZ, fHngM, fHngZ, fHngDip}
 
 -- ---- the terms of the median
@@ -195,16 +194,6 @@ unfoldable pub rowFixed : ℕ → Scenario → Row
 unfolding fineFixed report
 rowFixed i x = report (fineFixed i x)
 
--- what a sheet shows of a row: one sigma, the total one
-unfoldable pub shownOf : Row → Shown
-shownOf r = record { ln = r .ln; median = r .median; sigma = r .total }
-
--- ---- zeros
+-- zeros
 abbrev pub noFine : Fine
 noFine = record { ln = pos 0; intra = 0; t = 0; total = 0; arbitrary = 0 }
-
-abbrev pub noRow : Row
-noRow = record { ln = pos 0; median = 0; intra = 0; inter = 0; total = 0; arbitrary = 0 }
-
-abbrev pub noShown : Shown
-noShown = record { ln = pos 0; median = 0; sigma = 0 }

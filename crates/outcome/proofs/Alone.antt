@@ -2,11 +2,12 @@
 -- the same estimate. Assumes nothing.
 use Prim.Native.Nat.{ℕ}
 use mathlib.Core.Path.{_≡_}
-use Rattle.request.specs.declared.Field.the-variants.{Blank}
+use lib.IntN.{ℤ}
+use Rattle.request.specs.declared.Field.the-variants.{Given, Blank}
 use Rattle.request.specs.declared.Request.{Request}
 use Rattle.request.specs.Fields.{sizeOf, valueOf}
 use Rattle.geometry.specs.Fixed.{ruptureDistance}
-use Rattle.outcome.specs.Figures.{figureOf, style, dip, width, zhyp, ztor, rrup, z25}
+use Rattle.outcome.specs.Figures.{figureOf, style, dip, width, zhyp, ztor, rrup, basinOf, z25}
 
 module _ (r s : Request) where
   pub dip-alone : r .dip ≡ Blank → s .dip ≡ Blank → r .rake ≡ s .rake → dip r ≡ dip s
@@ -40,7 +41,18 @@ module _ (r s : Request) where
           ≡ figureOf Blank (ruptureDistance d' (valueOf (s .azimuth)) w' z' (sizeOf (s .rjb)))
       same d d' w w' z z' h l m = rw (h, l, m)
 
-  -- by Z1.5 where that is given, else by Z1.0 where that is, else by Vs30
-  pub z25-alone : r .z25 ≡ Blank → s .z25 ≡ Blank → r .z15 ≡ s .z15 → r .z10 ≡ s .z10 → r .vs30 ≡ s .vs30 → z25 r ≡ z25 s
-  unfolding z25
-  z25-alone a b h k l = rw (a, b, h, k, l)
+  -- ---- Z2.5, by the one of its three rules that the request asks for
+  pub z25-from-z15-alone : (v : ℤ) → r .z25 ≡ Blank → s .z25 ≡ Blank → r .z15 ≡ Given v → s .z15 ≡ Given v → z25 r ≡ z25 s
+  unfolding z25 basinOf
+  z25-from-z15-alone v a b h k = rw (a, b, h, k)
+
+  pub z25-from-z10-alone :
+      (v : ℤ) → r .z25 ≡ Blank → s .z25 ≡ Blank → r .z15 ≡ Blank → s .z15 ≡ Blank → r .z10 ≡ Given v → s .z10 ≡ Given v → z25 r ≡ z25 s
+  unfolding z25 basinOf
+  z25-from-z10-alone v a b h k l m = rw (a, b, h, k, l, m)
+
+  pub z25-from-vs30-alone :
+      r .z25 ≡ Blank → s .z25 ≡ Blank → r .z15 ≡ Blank → s .z15 ≡ Blank → r .z10 ≡ Blank → s .z10 ≡ Blank → r .vs30 ≡ s .vs30
+      → z25 r ≡ z25 s
+  unfolding z25 basinOf
+  z25-from-vs30-alone a b h k l m n = rw (a, b, h, k, l, m, n)

@@ -1,10 +1,12 @@
--- Of every accepted request, each figure that was estimated lies within 2 m of the exact value at the figures completed before it.
--- Assumes nothing.
+-- Each figure that was estimated lies within 2 m of the exact value at the figures completed before it, wherever what its rule reads lies
+-- in range: also where the figure leads to a refusal. What a rule reads lies in range wherever no row before it holds. Assumes nothing.
 use Prim.Native.Nat.{ℕ, _+_, _*_, _≤_}
 use mathlib.Core.Path.{_≡_}
 use lib.IntN.{pos}
 use Rattle.exact.specs.Near.{NearZ}
 use Rattle.exact.specs.Exact.{E30}
+use Rattle.refusals.specs.Order.{Silent}
+use Rattle.refusals.proofs.Rows.{silent-first}
 use Rattle.request.specs.declared.Field.{Field}
 use Rattle.request.specs.declared.Field.the-variants.{Blank}
 use Rattle.request.specs.declared.Request.{Request}
@@ -13,59 +15,50 @@ use Rattle.rules.specs.Rules.{widthE, topE, basinE}
 use Rattle.rules.proofs.WidthNear.{widthFixed-near}
 use Rattle.rules.proofs.TopNear.{topFixed-near}
 use Rattle.rules.proofs.BasinNear.{basinFixed-near}
-use Rattle.geometry.specs.Geometry.{ruptureDistanceE}
-use Rattle.geometry.specs.Fixed.{RuptureInRange}
+use Rattle.geometry.specs.Geometry.{ruptureDistanceE, RuptureInRange}
 use Rattle.geometry.proofs.Reported.{reported-near, reported-above}
 use Rattle.outcome.specs.Figures.{figureOf, style, dip, width, zhyp, ztor, rrup, basinOf, z25}
-use Rattle.outcome.specs.Refusals.{pathGiven, pathRows, refusal}
-use Rattle.refusals.proofs.Rows.{first-both}
+use Rattle.outcome.specs.Refusals.{sourceGiven, sourceRows, pathGiven}
 use Rattle.outcome.proofs.Ranges.{source-range, source-given, top-range, path-range}
-use Rattle.outcome.proofs.ExactlyWhen.{path-numbered, stages}
 
 -- what a blank field is completed to
-pub estimated-is : (f : Field) (e : ℕ) → f ≡ Blank → figureOf f e .value ≡ e
+estimated-is : (f : Field) (e : ℕ) → f ≡ Blank → figureOf f e .value ≡ e
 unfolding figureOf
 estimated-is f e h = rw h
 
--- the ranges under which the rupture distance is proved
-pub in-range : (r : Request) → refusal r ≡ 0 → RuptureInRange (dip r .value) (width r .value) (ztor r .value) (sizeOf (r .rjb))
-unfolding pathRows
-in-range r e =
-    let t = stages r e in
-    let s = source-range r (source-given r (t .source)) in
-    let p = path-range r (first-both (pathGiven r) _ (path-numbered r) (t .path) .0) in
-    record {
-      dip-low = s .dip-low;
-      dip-high = s .dip-high;
-      w-low = s .w-low;
-      w-high = s .w-high;
-      ztor-high = top-range r (t .source);
-      rjb-high = p .rjb-high;
-    }
-
-module _ (r : Request) (accepted : refusal r ≡ 0) where
-  pub width-near : r .w ≡ Blank → NearZ E30 2 (pos (width r .value)) (pos (widthE (style r) (sizeOf (r .m))))
+module _ (r : Request) where
+  -- ---- within 2 m
+  -- W reads M
+  pub width-near :
+      r .w ≡ Blank → 400 ≤ sizeOf (r .m) → sizeOf (r .m) ≤ 850
+      → NearZ E30 2 (pos (width r .value)) (pos (widthE (style r) (sizeOf (r .m))))
   unfolding width
-  width-near h =
-      let s = source-range r (source-given r (stages r accepted .source)) in
-      rw (estimated-is (r .w) _ h) (widthFixed-near (style r) (sizeOf (r .m)) (s .m-low) (s .m-high) .near)
+  width-near h low high = rw (estimated-is (r .w) _ h) (widthFixed-near (style r) (sizeOf (r .m)) low high .near)
 
-  pub ztor-near : r .ztor ≡ Blank → NearZ E30 2 (pos (ztor r .value)) (pos (topE (zhyp r) (width r .value) (dip r .value)))
+  -- ZTOR reads W and the dip; ZHYP may be any number
+  pub ztor-near :
+      r .ztor ≡ Blank → width r .value ≤ 100000 → dip r .value ≤ 90
+      → NearZ E30 2 (pos (ztor r .value)) (pos (topE (zhyp r) (width r .value) (dip r .value)))
   unfolding ztor
-  ztor-near h =
-      let s = source-range r (source-given r (stages r accepted .source)) in
-      rw (estimated-is (r .ztor) _ h) (topFixed-near (zhyp r) (width r .value) (dip r .value) (s .w-high) (s .dip-high))
+  ztor-near h w d = rw (estimated-is (r .ztor) _ h) (topFixed-near (zhyp r) (width r .value) (dip r .value) w d)
 
   pub rrup-near :
-      r .rrup ≡ Blank
+      r .rrup ≡ Blank → RuptureInRange (dip r .value) (width r .value) (ztor r .value) (sizeOf (r .rjb))
       → NearZ E30 2 (pos (rrup r .value))
       (pos (ruptureDistanceE (dip r .value) (valueOf (r .azimuth)) (width r .value) (ztor r .value) (sizeOf (r .rjb))))
   unfolding rrup
-  rrup-near h =
+  rrup-near h ranges =
       rw (estimated-is (r .rrup) _ h)
-      (reported-near (dip r .value) (valueOf (r .azimuth)) (width r .value) (ztor r .value) (sizeOf (r .rjb)) (in-range r accepted))
+      (reported-near (dip r .value) (valueOf (r .azimuth)) (width r .value) (ztor r .value) (sizeOf (r .rjb)) ranges)
 
-  -- never below the root of RJB² + ZTOR²
+  -- Z2.5 reads Vs30 where no other depth is given
+  pub z25-near :
+      r .z25 ≡ Blank → r .z15 ≡ Blank → r .z10 ≡ Blank → 150 ≤ sizeOf (r .vs30) → sizeOf (r .vs30) ≤ 1500
+      → NearZ E30 2 (pos (z25 r .value)) (pos (basinE (sizeOf (r .vs30))))
+  unfolding z25 basinOf
+  z25-near h k l low high = rw (estimated-is (r .z25) _ h, k, l) (basinFixed-near (sizeOf (r .vs30)) low high .near)
+
+  -- ---- never below the root of RJB² + ZTOR², whatever they are
   pub rrup-above :
       r .rrup ≡ Blank → sizeOf (r .rjb) * sizeOf (r .rjb) + ztor r .value * ztor r .value ≤ rrup r .value * rrup r .value
   unfolding rrup
@@ -73,9 +66,22 @@ module _ (r : Request) (accepted : refusal r ≡ 0) where
       rw (estimated-is (r .rrup) _ h)
       (reported-above (dip r .value) (valueOf (r .azimuth)) (width r .value) (ztor r .value) (sizeOf (r .rjb)))
 
-  pub z25-near :
-      r .z25 ≡ Blank → r .z15 ≡ Blank → r .z10 ≡ Blank → NearZ E30 2 (pos (z25 r .value)) (pos (basinE (sizeOf (r .vs30))))
-  unfolding z25 basinOf
-  z25-near h k l =
-      let s = source-range r (source-given r (stages r accepted .source)) in
-      rw (estimated-is (r .z25) _ h, k, l) (basinFixed-near (sizeOf (r .vs30)) (s .vs30-low) (s .vs30-high) .near)
+  -- ---- what a rule reads, where no row before it holds
+  -- before the row of a completed ZTOR
+  pub top-reads : Silent (sourceGiven r) → (width r .value ≤ 100000) × (dip r .value ≤ 90)
+  top-reads s = let n = source-range r (silent-first (sourceGiven r) s) in (n .w-high, n .dip-high)
+
+  -- before the row of a completed RRUP
+  pub distance-reads :
+      Silent (sourceRows r) → Silent (pathGiven r) → RuptureInRange (dip r .value) (width r .value) (ztor r .value) (sizeOf (r .rjb))
+  distance-reads s t =
+      let e = silent-first (sourceRows r) s in
+      let n = source-range r (source-given r e) in
+      record {
+        dip-low = n .dip-low;
+        dip-high = n .dip-high;
+        w-low = n .w-low;
+        w-high = n .w-high;
+        ztor-high = top-range r e;
+        rjb-high = path-range r (silent-first (pathGiven r) t) .rjb-high;
+      }

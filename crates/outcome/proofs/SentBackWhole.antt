@@ -112,7 +112,7 @@ module _ (r : Request) (accepted : refusal r ≡ 0) where
       by-field (Given v) e =
           let d : ℕ = sizeOf (r .rrup) + 1 in
           rw (rrup-given r v e) (ltb-false (d * d) S (given-test (r .rrup) v (ltb (d * d) S) e (path-rows .2)))
-      by-field Blank e = omega (arith, rrup-above r accepted e, square-one (rrup r .value))
+      by-field Blank e = omega (arith, rrup-above r e, square-one (rrup r .value))
 
   not-short : tooShort (sentBack r) ≡ false
   unfolding tooShort sentBack

@@ -16,7 +16,8 @@ use Rattle.outcome.specs.Figures.{ztor, rrup, z25}
 use Rattle.refusals.specs.Order.{Rows, first}
 use Rattle.refusals.specs.Order as No
 use Rattle.outcome.specs.Refusals.{sourceGiven, sourceCompleted, sourceRows, tooShort, pathGiven, pathCompleted, pathRows, siteGiven, siteCompleted, siteRows, rows, refusal}
-use Rattle.outcome.specs.Answers.{sourceFigures, sourceAnswer, sourceAnswerOf, figureAnswer, pathAnswerOf, siteAnswerOf, answer, completionOf}
+use Rattle.outcome.specs.Answers.{answer, completionOf}
+use Rattle.outcome.specs.Stages.{sourceFigures, sourceAnswer, sourceAnswerOf, figureAnswer, pathAnswerOf, siteAnswerOf}
 use Rattle.refusals.proofs.Rows.{numbered, nothing, skip, holds, passes, three, first-after, first-before}
 use Rattle.outcome.proofs.ExactlyWhen.{source-numbered, path-numbered, all-path-numbered}
 

@@ -2,3 +2,4 @@ pub mod Figures
 pub mod Refusals
 pub mod Answers
 pub mod SentBack
+pub mod Stages

@@ -5,7 +5,8 @@ use request::Field;
 use request::size_of;
 ghost use mathlib.Core.Path.{_≡_};
 ghost use Rattle.outcome.specs.Figures.{figureGiven};
-ghost use Rattle.outcome.specs.Answers.{sourceNumber, figureNumber, numberOf};
+ghost use Rattle.outcome.specs.Answers.{numberOf};
+ghost use Rattle.outcome.specs.Stages.{sourceNumber, figureNumber};
 
 // A figure, and whether it was estimated because the field was blank.
 pub struct Figure {

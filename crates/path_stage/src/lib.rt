@@ -17,7 +17,7 @@ ghost use Rattle.request.specs.Fields.{sizeOf};
 ghost use Rattle.outcome.specs.Figures.{dip, ztor, rrup};
 ghost use Rattle.refusals.specs.Order.{first};
 ghost use Rattle.outcome.specs.Refusals.{sourceRows, aboveRupture, pathGiven, tooShort};
-ghost use Rattle.outcome.specs.Answers.{sourceFigures, pathAnswerOf};
+ghost use Rattle.outcome.specs.Stages.{sourceFigures, pathAnswerOf};
 
 // Whether the site is above the rupture, whose completed dip is d: no distance follows from RJB there.
 fn is_above_rupture(r: Request, d: u64) -> bool

@@ -11,11 +11,12 @@ use Rattle.outcome.specs.declared.Completion.the-variants as C
 use Rattle.outcome.specs.Answers.{completionOf, numberOf}
 use Rattle.model.specs.declared.Row.{Row}
 use Rattle.model.specs.declared.Shown.{Shown}
-use Rattle.model.specs.Fixed.{shownOf, noRow, noShown}
+use Rattle.model.specs.Rows.{shownOf, noRow, noShown}
 use Rattle.model.specs.Accuracy.{exactOf, Accurate}
 use Rattle.model.proofs.Demand.{demand-3}
 use Rattle.prediction.specs.declared.Spectrum.{Spectrum}
-use Rattle.prediction.specs.Spectra.{scenarioOf, refusedWith, spectrumFor, spectrumOf, shownSpectrum, shownSpectrumOf, Small}
+use Rattle.prediction.specs.Spectra.{scenarioOf, refusedWith, spectrumFor, spectrumOf, shownSpectrum, shownSpectrumOf}
+use Rattle.prediction.specs.Sizes.{Small, ShownSmall}
 use Rattle.prediction.proofs.Completed.{in-range}
 use Rattle.prediction.proofs.RowLaws.{rows-length, row-is, row-small, zeros-small, spectrum-done, spectrum-refused, shown-row, by-completion}
 
@@ -60,11 +61,6 @@ shown-number r = refl
 pub shown-at : (r : Request) (k : ℕ) → getD (shownSpectrumOf r .rows) k noShown ≡ shownOf (getD (spectrumOf r .rows) k noRow)
 unfolding shownSpectrumOf shownSpectrum
 shown-at r k = shown-row (spectrumOf r .rows) k
-
-pub record ShownSmall (s : Shown) : Type 0 where
-  pub ln : natAbs (s .ln) ≤ 15000001
-  pub median : s .median < 9007199254740992
-  pub sigma : s .sigma ≤ 1550000
 
 pub shown-small : (r : Row) → Small r → ShownSmall (shownOf r)
 unfolding shownOf

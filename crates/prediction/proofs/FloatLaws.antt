@@ -15,9 +15,10 @@ use Rattle.request.specs.declared.Request.{Request}
 use Rattle.outcome.specs.declared.Completion.the-variants as C
 use Rattle.outcome.specs.Answers.{completionOf}
 use Rattle.model.specs.declared.Row.{Row}
-use Rattle.model.specs.Fixed.{noRow}
+use Rattle.model.specs.Rows.{noRow}
 use Rattle.prediction.specs.declared.floats.FloatRow.{FloatRow}
-use Rattle.prediction.specs.Spectra.{spectrumOf, Small}
+use Rattle.prediction.specs.Spectra.{spectrumOf}
+use Rattle.prediction.specs.Sizes.{Small}
 use Rattle.prediction.specs.Floats.{Is, Same, float, floatsOf, noFloats, floatSpectrumOf}
 use Rattle.prediction.proofs.DemandThree.{twenty-four, rows-small, refused-rows}
 

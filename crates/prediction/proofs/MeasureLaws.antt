@@ -20,11 +20,12 @@ use Rattle.outcome.proofs.ExactlyWhen.{accepted-by, measure-unread}
 use Rattle.tables.specs.Tables.{measures}
 use Rattle.model.specs.declared.Row.{Row}
 use Rattle.model.specs.declared.Shown.{Shown}
-use Rattle.model.specs.Fixed.{rowFixed, shownOf, noRow}
+use Rattle.model.specs.Fixed.{rowFixed}
+use Rattle.model.specs.Rows.{shownOf, noRow}
 use Rattle.prediction.specs.declared.measure.OneMeasure.the-variants as M
 use Rattle.prediction.specs.Spectra.{scenarioOf, spectrumOf}
-use Rattle.prediction.specs.Floats.{Is, float}
-use Rattle.prediction.specs.Measures.{shownValue, measureFor, measureOf}
+use Rattle.prediction.specs.Floats.{float}
+use Rattle.prediction.specs.Measures.{shownValue, measureFor, measureOf, Tells, told}
 use Rattle.prediction.proofs.Completed.{accepted}
 use Rattle.prediction.proofs.RowLaws.{row-is, spectrum-done, by-completion}
 use Rattle.prediction.proofs.DemandThree.{rows-small, shown-small}
@@ -55,13 +56,14 @@ measure-row r c k e h =
 
 -- and nothing of it is lost
 pub measure-whole :
-    (r : Request) (k : ℕ) → k < measures
-    → let s = shownOf (getD (spectrumOf r .rows) k noRow) in
-    Is (float (pos (s .median))) (pos (s .median)) × Is (float (pos (s .sigma))) (pos (s .sigma))
-measure-whole r k h =
+    (r : Request) (c : Completed) (k : ℕ) → completionOf r ≡ C.Done c → k < measures
+    → Tells (shownOf (getD (spectrumOf r .rows) k noRow)) (measureOf r k)
+unfolding shownValue
+measure-whole r c k e h =
     let row = getD (spectrumOf r .rows) k noRow in
     let n = shown-small row (rows-small r k h) in
-    (float-is (pos (shownOf row .median)) (omega (arith, n .median)), float-is (pos (shownOf row .sigma)) (omega (arith, n .sigma)))
+    rw (measure-row r c k e h)
+    (told (float-is (pos (shownOf row .median)) (omega (arith, n .median))) (float-is (pos (shownOf row .sigma)) (omega (arith, n .sigma))))
 
 -- ---- exactly when
 same-refusal : (m n : ℕ) → M.Refused m ≡ M.Refused n → m ≡ n

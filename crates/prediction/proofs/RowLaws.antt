@@ -16,12 +16,15 @@ use Rattle.model.specs.declared.Scenario.{Scenario}
 use Rattle.model.specs.declared.Fine.{Fine}
 use Rattle.model.specs.declared.Row.{Row}
 use Rattle.model.specs.declared.Shown.{Shown}
-use Rattle.model.specs.Fixed.{fineFixed, report, rowFixed, shownOf, noRow, noShown, FineInRange}
+use Rattle.model.specs.Fixed.{fineFixed, report, rowFixed, FineInRange}
+use Rattle.model.specs.Rows.{shownOf, noRow, noShown}
 use Rattle.model.specs.Accuracy.{InRange, Exact, exactOf}
-use Rattle.model.proofs.Reported.{FineNear, median-fits}
+use Rattle.model.specs.FineNear.{FineNear}
+use Rattle.model.proofs.Reported.{median-fits}
 use Rattle.model.proofs.Demand.{fine-near, fine-in-range}
 use Rattle.model.proofs.Sizes.{ln-size, sigma-size}
-use Rattle.prediction.specs.Spectra.{scenarioOf, rowsFrom, rowsOf, refusedWith, spectrumFor, spectrumOf, Small}
+use Rattle.prediction.specs.Spectra.{scenarioOf, rowsFrom, rowsOf, refusedWith, spectrumFor, spectrumOf}
+use Rattle.prediction.specs.Sizes.{Small}
 
 -- ---- the rows
 from-length : (n k : ℕ) (x : Scenario) → length (rowsFrom n k x) ≡ n

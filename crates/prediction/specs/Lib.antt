@@ -1,3 +1,4 @@
 pub mod Spectra
 pub mod Floats
 pub mod Measures
+pub mod Sizes

@@ -11,11 +11,12 @@ use Rattle.outcome.specs.declared.Completion.the-variants as C
 use Rattle.outcome.specs.Answers.{completionOf}
 use Rattle.tables.specs.Tables.{measures}
 use Rattle.model.specs.declared.Shown.{Shown}
-use Rattle.model.specs.Fixed.{rowFixed, shownOf}
+use Rattle.model.specs.Fixed.{rowFixed}
+use Rattle.model.specs.Rows.{shownOf}
 use Rattle.prediction.specs.declared.measure.OneMeasure.{OneMeasure}
 use Rattle.prediction.specs.declared.measure.OneMeasure.the-variants as M
 use Rattle.prediction.specs.Spectra.{scenarioOf}
-use Rattle.prediction.specs.Floats.{float}
+use Rattle.prediction.specs.Floats.{Is, float}
 
 -- of what is shown, the median and the sigma
 unfoldable pub shownValue : Shown → OneMeasure
@@ -46,3 +47,7 @@ medianIn (M.Refused n) x = x
 unfoldable pub sigmaIn : OneMeasure → Float → Float
 sigmaIn (M.Value y s) x = s
 sigmaIn (M.Refused n) x = x
+
+-- it is a median and a sigma that are the whole numbers of what is shown: nothing is lost
+pub data Tells (s : Shown) : OneMeasure → Type 0 where
+  told : {y z : Float} → Is y (pos (s .median)) → Is z (pos (s .sigma)) → Tells s (M.Value y z)

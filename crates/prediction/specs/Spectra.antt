@@ -12,7 +12,8 @@ use Rattle.outcome.specs.Answers.{completionOf}
 use Rattle.model.specs.declared.Scenario.{Scenario}
 use Rattle.model.specs.declared.Row.{Row}
 use Rattle.tables.specs.Tables.{measures}
-use Rattle.model.specs.Fixed.{rowFixed, shownOf, noRow}
+use Rattle.model.specs.Fixed.{rowFixed}
+use Rattle.model.specs.Rows.{shownOf, noRow}
 use Rattle.prediction.specs.declared.Spectrum.{Spectrum}
 use Rattle.prediction.specs.declared.shown.ShownSpectrum.{ShownSpectrum}
 
@@ -63,12 +64,3 @@ shownSpectrum s = record { refusal = s .refusal; rows = map shownOf (s .rows) }
 unfoldable pub shownSpectrumOf : Request → ShownSpectrum
 unfolding shownSpectrum spectrumOf
 shownSpectrumOf r = shownSpectrum (spectrumOf r)
-
--- how large the figures of a row are: ln median at most 15 and a millionth, the median below 2^53, a sigma at most 1.55
-pub record Small (r : Row) : Type 0 where
-  pub ln : natAbs (r .ln) ≤ 15000001
-  pub median : r .median < 9007199254740992
-  pub intra : r .intra ≤ 1550000
-  pub inter : r .inter ≤ 1550000
-  pub total : r .total ≤ 1550000
-  pub arbitrary : r .arbitrary ≤ 1550000

@@ -9,8 +9,8 @@ ghost use Prim.Native.Nat.{ℕ, _<_, _≤_};
 ghost use lib.IntN.{pos, natAbs};
 ghost use lib.ListN.{length, getD};
 ghost use Rattle.tables.specs.Tables.{measures};
-ghost use Rattle.model.specs.Fixed.{noRow};
-ghost use Rattle.prediction.specs.Spectra.{Small};
+ghost use Rattle.model.specs.Rows.{noRow};
+ghost use Rattle.prediction.specs.Sizes.{Small};
 ghost use Rattle.prediction.specs.Floats.{Is, Same, float, floatsOf, noFloats, floatSpectrumOf};
 
 // A row whose every field is the whole number as an f64.

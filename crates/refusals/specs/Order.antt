@@ -1,9 +1,9 @@
 -- The refusals by name, the order in which they are tested, and what it means that one of them is the first. Document 01's table, from
 -- the top; no other file of the specs has their numbers. Definitions only.
 use Prim.Native.Nat.{ℕ}
-use mathlib.Core.Bool.{Bool, true, false, cond, _&&_}
+use mathlib.Core.Bool.{Bool, true, false, not, cond, _&&_}
 use mathlib.Core.List.{List, [], _∷_}
-use lib.Dec.{T, eqb}
+use lib.Dec.{T, leb, eqb}
 
 -- ---- by name
 -- the line cannot be read
@@ -84,6 +84,26 @@ order =
     ∷ tooLong
     ∷ []
 
+-- what is left of a list from n on, nothing where n is not in it
+abbrev pub from : ℕ → List ℕ → List ℕ
+from n [] = []
+from n (m ∷ rest) = cond (eqb n m) (m ∷ rest) (from n rest)
+
+-- whether a list has a number
+abbrev pub some : List ℕ → Bool
+some [] = false
+some (n ∷ rest) = true
+
+-- whether no number stands in a list twice
+abbrev pub apart : List ℕ → Bool
+apart [] = true
+apart (n ∷ rest) = not (some (from n rest)) && apart rest
+
+-- whether each lies from 1 to `most`
+abbrev pub upTo : ℕ → List ℕ → Bool
+upTo most [] = true
+upTo most (n ∷ rest) = leb 1 n && (leb n most && upTo most rest)
+
 -- ---- the first that applies
 -- a row is a refusal's number, and whether its condition holds
 abbrev pub Rows : Type 0
@@ -105,15 +125,6 @@ pub data Silent : Rows → Type 0 where
   quiet : {m : ℕ} {rest : Rows} → Silent rest → Silent ((m, false) ∷ rest)
 
 -- ---- a table in the order
--- what is left of a list from n on, nothing where n is not in it
-abbrev pub from : ℕ → List ℕ → List ℕ
-from n [] = []
-from n (m ∷ rest) = cond (eqb n m) (m ∷ rest) (from n rest)
-
-abbrev pub some : List ℕ → Bool
-some [] = false
-some (n ∷ rest) = true
-
 -- each row's number stands in the list, not before that of the row above it
 abbrev pub follows : List ℕ → Rows → Bool
 follows list [] = true

@@ -23,7 +23,8 @@ ghost use Rattle.tables.specs.Tables.{measures};
 ghost use Rattle.tables.specs.OfTables.{OfTable3};
 ghost use Rattle.model.specs.Accuracy.{InRange};
 ghost use Rattle.model.specs.Equations.{most};
-ghost use Rattle.model.specs.Fixed.{report, shownOf, rowFixed, noFine, noRow, noShown, FineInRange};
+ghost use Rattle.model.specs.Fixed.{report, rowFixed, noFine, FineInRange};
+ghost use Rattle.model.specs.Rows.{shownOf, noRow, noShown};
 ghost use Rattle.sigmas.specs.Settling.{settledOf};
 
 // A median, at least 1.

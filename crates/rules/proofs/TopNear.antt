@@ -7,7 +7,8 @@ use native.Mathlib.Omega.{arith}
 use native.Mathlib.Nat.{mul-le-mul-left, mul-le-mul-right, mul-comm, mul-assoc, mul-left-comm, mul-right-comm, add-mul, mul-add, mul-sub, mul-zero, zero-mul, div-mul-le-self}
 use lib.Dec.{lit≤}
 use lib.IntN.{ℤ, pos, _-ℤ_, _*ℤ_}
-use Rattle.exact.specs.Near.{up, dn, NearZ, Whole}
+use Rattle.exact.specs.Near.{up, dn, NearZ}
+use Rattle.exact.specs.Laws.{Whole}
 use Rattle.exact.specs.Exact.{E30, mulE, sinE}
 use Rattle.exact.proofs.Signed.{by-sign, sub-is, mul-up, mul-dn}
 use Rattle.exact.proofs.Quotients.{cancel}

@@ -6,8 +6,8 @@ mod section;
 
 ghost use mathlib.Core.Path.{_≡_};
 ghost use Prim.Native.Nat.{_+_, _*_, _≤_, _<_};
-ghost use Rattle.geometry.specs.Geometry.{ceilRoot, onHangingWall};
-ghost use Rattle.geometry.specs.Fixed.{RuptureInRange, hangingWallFixed, larger, ruptureDistance};
+ghost use Rattle.geometry.specs.Geometry.{ceilRoot, onHangingWall, RuptureInRange};
+ghost use Rattle.geometry.specs.Fixed.{hangingWallFixed, larger, ruptureDistance};
 use plan::projected_width;
 use plan::site;
 use reckon::cos_deg;

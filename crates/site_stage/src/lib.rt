@@ -15,7 +15,7 @@ ghost use Rattle.request.specs.Fields.{sizeOf};
 ghost use Rattle.outcome.specs.Figures.{basinOf, z25};
 ghost use Rattle.refusals.specs.Order.{first};
 ghost use Rattle.outcome.specs.Refusals.{sourceRows, siteGiven};
-ghost use Rattle.outcome.specs.Answers.{siteAnswerOf};
+ghost use Rattle.outcome.specs.Stages.{siteAnswerOf};
 
 // The refusal that reads a given depth of the site.
 fn site_refusal(r: Request) -> u32

@@ -23,7 +23,7 @@ ghost use Rattle.rules.specs.Fixed.{widthFixed, topFixed};
 ghost use Rattle.outcome.specs.Figures.{figureOf, zhypOf};
 ghost use Rattle.refusals.specs.Order.{first};
 ghost use Rattle.outcome.specs.Refusals.{sourceGiven};
-ghost use Rattle.outcome.specs.Answers.{sourceFigures, sourceAnswerOf};
+ghost use Rattle.outcome.specs.Stages.{sourceFigures, sourceAnswerOf};
 
 // The first refusal that reads a given figure of the source, or Vs30, which stands among them.
 fn source_refusal(r: Request) -> u32

@@ -15,9 +15,9 @@ use Rattle.request.specs.declared.Field.the-variants.{Given}
 use Rattle.text.specs.declared.figures.Number.the-variants as N
 use Rattle.text.specs.declared.figures.Signed.the-variants as S
 use Rattle.text.specs.declared.figures.Word.the-variants as W
-use Rattle.numerals.specs.Render.{space, minus, digit0, digit9}
-use Rattle.text.specs.Grammar.{isDigit, digitsOf, unsignedOf, plain, negative, signedOf, asWord, fieldOf, spaceAt, signedBack}
-use Rattle.numerals.specs.Render.{render, renderSigned}
+use Rattle.numerals.specs.Render.{space, minus, digit0, digit9, render, renderSigned}
+use Rattle.text.specs.Grammar.{isDigit, digitsOf, unsignedOf, plain, negative, signedOf, asWord, fieldOf, spaceAt}
+use Rattle.text.specs.ReadBack.{signedBack}
 use Rattle.text.proofs.FigureLaws.{minus-taken, no-minus}
 use Rattle.numerals.proofs.RenderLaws.{by-tenths, render-one, render-more, length-one, length-more, length-render}
 

@@ -124,8 +124,3 @@ lineOf s = cond (ltb longest (length s)) L.Malformed (toLine (fieldsOf 12 0 s))
 abbrev pub numberOf : Line → ℕ
 numberOf (L.Is r) = 0
 numberOf L.Malformed = No.malformed
-
--- ---- read back
--- a number of either sign, whatever its size
-unfoldable pub signedBack : List ℕ → Signed
-signedBack s = cond (eqb (getD s 0 0) minus) (negative (digitsOf 0 (drop 1 s))) (plain (digitsOf 0 s))

@@ -5,7 +5,7 @@ use Rattle.request.specs.declared.Request.{Request}
 use Rattle.outcome.specs.declared.Completion.the-variants as C
 use Rattle.outcome.specs.Figures.{rrup, z25}
 use Rattle.outcome.specs.Refusals.{sourceRows, pathRows, siteRows, refusal}
-use Rattle.outcome.specs.Answers.{sourceFigures, sourceNumber, figureNumber}
+use Rattle.outcome.specs.Stages.{sourceFigures, sourceNumber, figureNumber}
 use Rattle.outcome.proofs.ExactlyWhen.{accepted-by}
 use Rattle.outcome.proofs.Staged.{Known, source-says, source-tells, path-says, path-tells, site-says, site-tells, all-silent}
 use Rattle.completion.proofs.complete.Statement.{statement}

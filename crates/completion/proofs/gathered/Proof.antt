@@ -1,7 +1,8 @@
 -- Each figure is the request's own or that of its stage; the angles of an accepted request fit an i64. Assumes nothing.
 use borrow.Author.Needs.{needs}
 use mir.Facts.{toZ-ofZ}
-use Rattle.outcome.specs.Answers.{sourceFigures, completed}
+use Rattle.outcome.specs.Answers.{completed}
+use Rattle.outcome.specs.Stages.{sourceFigures}
 use Rattle.outcome.proofs.ExactlyWhen.{stages}
 use Rattle.outcome.proofs.Ranges.{angle-fits, source-range, source-given, path-range, path-given}
 use Rattle.completion.proofs.gathered.Statement.{statement}

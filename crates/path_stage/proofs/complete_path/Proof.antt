@@ -5,7 +5,7 @@ use native.Mathlib.Omega.{arith}
 use Rattle.outcome.specs.declared.FigureAnswer.the-variants as F
 use Rattle.refusals.specs.Order.{first}
 use Rattle.outcome.specs.Refusals.{pathGiven}
-use Rattle.outcome.specs.Answers.{sourceFigures}
+use Rattle.outcome.specs.Stages.{sourceFigures}
 use Rattle.outcome.proofs.Ranges.{top-range, path-range}
 use Rattle.outcome.proofs.Staged.{path-refused, path-far, path-short, path-known}
 use Rattle.path_stage.proofs.complete_path.Statement.{statement}

@@ -5,7 +5,7 @@ use borrow.Author.Needs.{needs}
 use mathlib.Core.Path.{_∙_}
 use mir.Facts.{toZ-ofZ}
 use Rattle.outcome.specs.Figures.{figureOf, rrup}
-use Rattle.outcome.specs.Answers.{sourceFigures}
+use Rattle.outcome.specs.Stages.{sourceFigures}
 use Rattle.outcome.proofs.Ranges.{angle-fits, source-range, source-given, top-range, path-range}
 use Rattle.path_stage.proofs.known_path.Statement.{statement}
 use Rattle.path_stage.proofs.known_path.Tie as tie

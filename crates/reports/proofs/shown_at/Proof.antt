@@ -3,7 +3,8 @@ use borrow.Author.Needs.{needs}
 use mathlib.Core.Path.{sym, ap, subst, _∙_}
 use Rattle.tables.proofs.RowsRead.{of-deviations, read-3}
 use Rattle.model.specs.declared.Fine.{Fine}
-use Rattle.model.specs.Fixed.{report, shownOf, rowFixed, FineInRange}
+use Rattle.model.specs.Fixed.{report, rowFixed, FineInRange}
+use Rattle.model.specs.Rows.{shownOf}
 use Rattle.model.proofs.Demand.{fine-in-range}
 use Rattle.sigmas.specs.Settling.{settledOf}
 use Rattle.sigmas.proofs.SettledRows.{read-settled}

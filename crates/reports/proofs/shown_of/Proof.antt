@@ -4,7 +4,8 @@ use native.Mathlib.Omega.{arith}
 use native.Mathlib.Nat.{le-trans}
 use lib.Dec.{lit≤}
 use mir.Facts.{toZ-ofZ}
-use Rattle.model.specs.Fixed.{report, shownOf}
+use Rattle.model.specs.Fixed.{report}
+use Rattle.model.specs.Rows.{shownOf}
 use Rattle.reports.proofs.LnFits.{ln-fits, ln-abs, nearest-fits}
 use Rattle.reports.proofs.shown_of.Statement.{statement}
 use Rattle.reports.proofs.shown_of.Tie as tie

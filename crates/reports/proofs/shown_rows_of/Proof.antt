@@ -2,7 +2,8 @@
 use borrow.Author.Needs.{needs}
 use mathlib.Core.Path.{sym, ap, subst, _∙_}
 use Rattle.model.specs.declared.Fine.{Fine}
-use Rattle.model.specs.Fixed.{report, shownOf, rowFixed, FineInRange}
+use Rattle.model.specs.Fixed.{report, rowFixed, FineInRange}
+use Rattle.model.specs.Rows.{shownOf}
 use Rattle.model.proofs.Demand.{fine-in-range}
 use Rattle.reports.proofs.shown_rows_of.Statement.{statement}
 use Rattle.reports.proofs.shown_rows_of.Tie as tie

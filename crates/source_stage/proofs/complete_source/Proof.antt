@@ -5,7 +5,7 @@ use native.Mathlib.Omega.{arith}
 use Rattle.outcome.specs.declared.SourceAnswer.the-variants as S
 use Rattle.refusals.specs.Order.{first}
 use Rattle.outcome.specs.Refusals.{sourceGiven}
-use Rattle.outcome.specs.Answers.{sourceFigures}
+use Rattle.outcome.specs.Stages.{sourceFigures}
 use Rattle.outcome.proofs.Staged.{source-refused, source-deep, source-clear, source-known}
 use Rattle.source_stage.proofs.complete_source.Statement.{statement}
 use Rattle.source_stage.proofs.complete_source.Tie as tie

@@ -6,7 +6,7 @@ use Rattle.request.specs.declared.Style.{Style}
 use Rattle.rules.specs.Rules.{dipOf}
 use Rattle.rules.specs.Fixed.{widthFixed}
 use Rattle.outcome.specs.Figures.{figureOf, style, dip, width, zhypOf, zhyp, ztor}
-use Rattle.outcome.specs.Answers.{sourceFigures}
+use Rattle.outcome.specs.Stages.{sourceFigures}
 use Rattle.outcome.proofs.Ranges.{source-range}
 use Rattle.source_stage.proofs.known_source.Statement.{statement}
 use Rattle.source_stage.proofs.known_source.Tie as tie

@@ -6,7 +6,7 @@ use native.Mathlib.Nat.{ne-of-lt}
 use borrow.Author.Count.{below-none, below-more}
 use lib.ListN.{length, getD, set, length-set}
 use lib.Seq.{getD-set-same, getD-set-other}
-use Rattle.model.specs.Fixed.{noRow}
+use Rattle.model.specs.Rows.{noRow}
 use Rattle.prediction.specs.Floats.{floatsOf, noFloats}
 use Rattle.prediction.proofs.floats.float_rows.Statement.{statement}
 use Rattle.prediction.proofs.floats.float_rows.Tie as tie

@@ -5,7 +5,7 @@ use mathlib.Core.List.{List}
 use lib.ListN.{length, getD}
 use borrow.Author.Needs.{needs}
 use Rattle.request.specs.declared.Request.{Request}
-use Rattle.model.specs.Fixed.{noRow}
+use Rattle.model.specs.Rows.{noRow}
 use Rattle.prediction.specs.declared.Spectrum.{Spectrum}
 use Rattle.prediction.specs.declared.floats.FloatRow.{FloatRow}
 use Rattle.prediction.specs.declared.floats.FloatSpectrum.{FloatSpectrum}

@@ -10,7 +10,8 @@ use Rattle.model.specs.Fixed.{rowFixed}
 use Rattle.prediction.specs.Measures.{shownValue}
 use Rattle.prediction.proofs.Completed.{in-range}
 use Rattle.prediction.proofs.RowLaws.{fixed-small, refused-by}
-use Rattle.prediction.proofs.DemandThree.{ShownSmall, shown-small}
+use Rattle.prediction.specs.Sizes.{ShownSmall}
+use Rattle.prediction.proofs.DemandThree.{shown-small}
 use Rattle.prediction.proofs.MeasureLaws.{measure-refused, measure-none, measure-fixed}
 use Rattle.prediction.proofs.measure.predict_measure.Statement.{statement}
 use Rattle.prediction.proofs.measure.predict_measure.Tie as tie

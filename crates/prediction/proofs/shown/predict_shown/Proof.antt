@@ -9,7 +9,7 @@ use Rattle.outcome.specs.Answers.{completionOf}
 use Rattle.model.specs.declared.Scenario.{Scenario}
 use Rattle.model.specs.declared.Shown.{Shown}
 use Rattle.model.specs.Accuracy.{InRange}
-use Rattle.model.specs.Fixed.{shownOf}
+use Rattle.model.specs.Rows.{shownOf}
 use Rattle.prediction.specs.declared.shown.ShownSpectrum.{ShownSpectrum}
 use Rattle.prediction.specs.Spectra.{rowsOf, spectrumFor, spectrumOf, shownSpectrum, shownSpectrumOf}
 use Rattle.prediction.proofs.Completed.{in-range}

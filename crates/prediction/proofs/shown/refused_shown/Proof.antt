@@ -1,6 +1,6 @@
 -- The zeros are those of the definition. Assumes nothing.
 use mathlib.Core.Path.{refl}
-use Rattle.model.specs.Fixed.{shownOf}
+use Rattle.model.specs.Rows.{shownOf}
 use Rattle.prediction.specs.Spectra.{refusedWith, shownSpectrum}
 use Rattle.prediction.proofs.shown.refused_shown.Statement.{statement}
 use Rattle.prediction.proofs.shown.refused_shown.Tie as tie
