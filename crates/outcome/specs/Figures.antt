@@ -1,5 +1,6 @@
 -- The completed figures of a request: each is what was given, or the estimate by its one rule where its field is blank. Whether they
--- are reported is decided by the tests of `Refusals`. Definitions only.
+-- are reported is decided by the tests of `Refusals`. W, ZTOR, RRUP and the Z2.5 from Vs30 are estimated as they are reckoned, which
+-- `EstimatesNear` holds to within 2 m of the rules' exact values. Definitions only.
 use Prim.Native.Nat.{ℕ, _*_}
 use mathlib.Core.Bool.{true, false}
 use lib.IntN.{natAbs}
