@@ -6,7 +6,7 @@ use native.Mathlib.Omega.{arith}
 use lib.Dec.{T, leb, leb→le}
 use lib.Ieee.Fits.{and-l, and-r}
 use lib.IntN.{ℤ, pos, natAbs, _-ℤ_, _*ℤ_}
-use Rattle.exact.specs.Near.{up, dn, NearZ}
+use Rattle.exact.specs.Near.{up, dn}
 use Rattle.exact.specs.Exact.{sinE, cosE}
 use Rattle.exact.proofs.Computed.{run, run-from}
 use Rattle.exact.proofs.NearLaws.{near←}

@@ -10,7 +10,7 @@ use native.Mathlib.Nat.{le-refl, le-trans, mul-le-mul-right, mul-assoc, mul-comm
 use lib.Dec.{lit≤}
 use lib.IntN.{ℤ, pos, _*ℤ_}
 use Rattle.exact.specs.Near.{up, dn, NearZ}
-use Rattle.exact.specs.Exact.{E30, expE, rootE}
+use Rattle.exact.specs.Exact.{E30, expE}
 use Rattle.fixed.specs.Fixed.{E9, K20, K21, nearest, expFixed}
 use Rattle.model.specs.declared.Fine.{Fine}
 use Rattle.fixed.proofs.SignedLaws.{nearest-half}
@@ -19,7 +19,7 @@ use Rattle.model.specs.FineNear.{minusFifteen, Between, RootNear, FineNe
 use Rattle.model.specs.Accuracy.{Exact, Accurate}
 use Rattle.exact.proofs.RelLaws.{chain}
 use Rattle.exact.proofs.NearLaws.{near→within}
-use Rattle.model.specs.Equations.{most, E24, E27}
+use Rattle.model.specs.Equations.{most, E24}
 use Rattle.model.specs.Fixed.{sigmaOf, report}
 use Rattle.fixed.proofs.ExpNear.{expFixed-near}
 use Rattle.model.proofs.Between.{near-between}

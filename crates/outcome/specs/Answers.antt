@@ -6,17 +6,11 @@ use lib.IntN.{pos}
 use Rattle.request.specs.declared.Request.{Request}
 use Rattle.request.specs.Fields.{sizeOf, valueOf}
 use Rattle.outcome.specs.declared.Figure.{Figure}
-use Rattle.outcome.specs.declared.FigureAnswer.{FigureAnswer}
-use Rattle.outcome.specs.declared.FigureAnswer.the-variants as F
-use Rattle.outcome.specs.declared.Source.{Source}
-use Rattle.outcome.specs.declared.SourceAnswer.{SourceAnswer}
-use Rattle.outcome.specs.declared.SourceAnswer.the-variants as S
 use Rattle.outcome.specs.declared.Completed.{Completed}
 use Rattle.outcome.specs.declared.Completion.{Completion}
 use Rattle.outcome.specs.declared.Completion.the-variants as C
 use Rattle.outcome.specs.Figures.{dip, width, ztor, rrup, z25}
-use Rattle.refusals.specs.Order.{first}
-use Rattle.outcome.specs.Refusals.{sourceRows, pathRows, siteRows, refusal}
+use Rattle.outcome.specs.Refusals.{refusal}
 
 unfoldable pub completed : Request → Completed
 unfolding dip width ztor rrup z25 sizeOf valueOf

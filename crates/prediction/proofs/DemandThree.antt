@@ -1,16 +1,14 @@
 -- Demand 3 for a request: every row of an accepted request's spectrum is as near the exact values as `Accurate` says, and a refused
 -- one has its number and zeros in all 24 rows. So no spectrum given always, no row copied and no row left zero passes. Assumes
 -- nothing.
-use Prim.Native.Nat.{ℕ, _≤_, _<_}
+use Prim.Native.Nat.{ℕ, _<_}
 use mathlib.Core.Path.{_≡_, refl, sym, ap, subst}
-use lib.IntN.{natAbs}
 use lib.ListN.{length, getD, length-replicate, getD-replicate}
 use Rattle.request.specs.declared.Request.{Request}
 use Rattle.outcome.specs.declared.Completed.{Completed}
 use Rattle.outcome.specs.declared.Completion.the-variants as C
 use Rattle.outcome.specs.Answers.{completionOf, numberOf}
 use Rattle.model.specs.declared.Row.{Row}
-use Rattle.model.specs.declared.Shown.{Shown}
 use Rattle.model.specs.Rows.{shownOf, noRow, noShown}
 use Rattle.model.specs.Accuracy.{exactOf, Accurate}
 use Rattle.model.proofs.Demand.{demand-3}

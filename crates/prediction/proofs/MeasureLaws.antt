@@ -24,7 +24,6 @@ use Rattle.model.specs.Fixed.{rowFixed}
 use Rattle.model.specs.Rows.{shownOf, noRow}
 use Rattle.prediction.specs.declared.measure.OneMeasure.the-variants as M
 use Rattle.prediction.specs.Spectra.{scenarioOf, spectrumOf}
-use Rattle.prediction.specs.Floats.{float}
 use Rattle.prediction.specs.Measures.{shownValue, measureFor, measureOf, Tells, told}
 use Rattle.prediction.proofs.Completed.{accepted}
 use Rattle.prediction.proofs.RowLaws.{row-is, spectrum-done, by-completion}

@@ -1,5 +1,5 @@
 -- How large the figures of a reported row are, and of what a sheet shows of it. Definitions only.
-use Prim.Native.Nat.{ℕ, _≤_, _<_}
+use Prim.Native.Nat.{_≤_, _<_}
 use lib.IntN.{natAbs}
 use Rattle.model.specs.declared.Row.{Row}
 use Rattle.model.specs.declared.Shown.{Shown}

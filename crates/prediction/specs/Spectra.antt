@@ -1,7 +1,6 @@
 -- A request's spectrum: the 24 rows of its completed figures, or the refusal's number with zeros in all else. Definitions only.
-use Prim.Native.Nat.{ℕ, zero, suc, _+_, _≤_, _<_}
+use Prim.Native.Nat.{ℕ, zero, suc, _+_}
 use mathlib.Core.List.{List, [], _∷_, map}
-use lib.IntN.{natAbs}
 use lib.ListN.{replicate}
 use Rattle.request.specs.declared.Request.{Request}
 use Rattle.request.specs.Styles.{styleOf}

@@ -1,6 +1,6 @@
 -- What 003 says of its own numbers, computed of the specs' copy: the totals of Table 3 are roots of sums of squares (equations 16
 -- and 18), each right to the printed digit, and PGA has the numbers of 0.010 s in both tables. Assumes nothing.
-use Prim.Native.Nat.{ℕ, zero, suc, _+_, _*_, _-_, _≤_}
+use Prim.Native.Nat.{ℕ, zero, suc, _+_, _*_, _-_}
 use mathlib.Core.Path.{_≡_, refl}
 use mathlib.Core.Bool.{Bool, true, _&&_}
 use mathlib.Core.List.{List, [], _∷_}
