@@ -48,7 +48,7 @@ HEADS = {
 NOTHING = re.compile(r"//.*|(?:^|(?<=\s))--(?:\s.*|$)|/\*.*?\*/|/\*.*|^.*\*/|^use .*|^ghost .*|^\s*(?:requires|ensures) .*")
 SECONDS = 600
 
-Change = collections.namedtuple("Change", "kind path at start end by crate")
+Change = collections.namedtuple("Change", "kind path name at start end by crate")
 
 
 def of(names):
@@ -109,7 +109,7 @@ MORE = [
     ("specs", "crates/model/specs/*.antt", of("c100 n100 site[CN].* curve.* linear fSite.* rockPGA.* alpha.* E2[4-8] times"), "site"),
     ("specs", "crates/model/specs/*.antt", of("lnAF atBase.* intra.* squaredFixed crossFixed sigmaOf"), "sigmas"),
     ("specs", "crates/model/specs/*.antt", of("report"), "reports"),
-    ("specs", "crates/model/specs/*.antt", of("noFine noRow noShown"), "prediction"),
+    ("specs", "crates/model/specs/*.antt", of("noRow"), "prediction"),
     ("specs", "crates/site/specs/*.antt", EVERY, "site"),
     ("specs", "crates/lent/specs/*.antt", EVERY, "lent"),
     ("specs", "crates/numerals/specs/*.antt", of("digit0 digitsIn"), "numerals"),
@@ -174,17 +174,18 @@ LEFT = [
     ("*", r"Type 0|Unit \{0\}", "the level of a type: no number"),
     ("*", r"infix[lr]? \d+", "how tightly an operator binds: no number"),
     ("crates/exact/specs/*", r"With 60", "sixty terms: from the 32nd on each is 0, so one more or less gives the same"),
-    ("crates/exact/specs/*", r"^IsRoot: .*", "a claim: one more claims less"),
+    ("crates/exact/specs/*", r"^IsRoot: .*", "a promise: no figure is made with it"),
     ("crates/geometry/specs/*", r"^RuptureInRange: .*", "a range that laws ask for: the limits themselves are those of outcome's specs"),
     ("crates/model/specs/*", r"^InRange: .*", "a range that laws ask for: the limits themselves are those of outcome's specs"),
-    ("crates/model/specs/*", r"^FineInRange: .*", "a bound that laws ask for, wide of what comes"),
-    ("crates/model/specs/*", r"^Accurate: .*", "a promised bound: one more promises less"),
-    ("crates/prediction/specs/*", r"^Small: .*", "a promised bound: one more promises less"),
+    ("crates/model/specs/*", r"^FineInRange: .*", "a bound that laws ask for: no figure is made with it"),
+    ("crates/model/specs/*", r"^Accurate: .*", "a promise: no figure is made with it"),
+    ("crates/prediction/specs/*", r"^Small: .*", "a promise: no figure is made with it"),
     ("crates/prediction/specs/*", r"^Is: .*", "the 1 that a whole number is divided by in HasValue"),
-    ("crates/answer/specs/*", r"^longestLine: .*", "a promised bound: one more promises less"),
-    ("crates/tables/specs/*", r"^RootOf: .*", "a test of the printed totals, of which no figure is made"),
+    ("crates/answer/specs/*", r"^longestLine: .*", "a promise: no figure is made with it"),
+    ("crates/tables/specs/*", r"^RootOf: .*", "a promise: no figure is made with it"),
     ("crates/text/specs/*", r"^fieldAt: .*", "past the end of a list: never read"),
     ("crates/tables/specs/*", r"^no(Coefficients|Deviations): .*", "past the end of a list: never read"),
+    ("crates/model/specs/*", r"^no(Fine|Shown): .*", "past the end of a list: never read"),
     ("crates/examples/specs/*", r".*", "document 01's examples: the test itself"),
     ("crates/filter/specs/*", r"^statusOf: .*", "an exit status: programs/test runs them all, and the proof takes minutes"),
     ("crates/programs/specs/*", r".*", "an exit status or a count of arguments: programs/test runs them all, and the proof takes minutes"),
@@ -239,7 +240,7 @@ def gather():
                         continue
                     taken.add((path, at, m.start()))
                     by = by_of(path, line, m.start(), m[0])
-                    here.append(Change(kind, path, at, m.start() - offset, m.end() - offset, by, crate))
+                    here.append(Change(kind, path, line[:offset - 2], at, m.start() - offset, m.end() - offset, by, crate))
         places.append(here)
     return places
 
@@ -393,7 +394,7 @@ def main():
     options.add_argument("--seed", type=int, default=1)
     options.add_argument("--jobs", type=int, default=2)
     options.add_argument("--places", default="code,specs,second")
-    options.add_argument("--only", default="", help="only files that match this regular expression")
+    options.add_argument("--only", default="", help="only files that match this regular expression, or FILE:DEFINITION that do")
     options.add_argument("--list", action="store_true", help="only name the alterations")
     options.add_argument("--left", action="store_true", help="only name the numbers of specs/ that are not tried, and why")
     given = options.parse_args()
@@ -401,7 +402,8 @@ def main():
     why = left(places)
     if given.left:
         return tell_left(why)
-    places = [[c for c in here if c.by and c.kind in given.places.split(",") and re.search(given.only, c.path)] for here in places]
+    kinds = given.places.split(",")
+    places = [[c for c in here if c.by and c.kind in kinds and re.search(given.only, f"{c.path}:{c.name}")] for here in places]
     changes = sampled(places, given.sample, given.seed) if given.sample else [c for here in places for c in here]
     if given.list:
         return print("\n".join(map(tell, changes)))
