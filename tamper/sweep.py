@@ -266,7 +266,7 @@ def altered(number, by):
     """The number with so much more in its last digit, its form kept."""
     digits = re.sub(r"\D", "", number)
     more = str(int(digits) + by)
-    if "." not in number and len(more) < len(digits):
+    if "." not in number and number[0] != "0" and len(more) < len(digits):
         return more
     more = more.rjust(len(digits), "0")
     out, k = [], len(more) - 1
