@@ -10,7 +10,7 @@ path is given. Exit 1 on any difference beyond its bound:
 - a given figure, a dip, a Z2.5 from Z1.5 or Z1.0, an RRUP off the hanging wall, the letters, the header, the form of a line, the
   number of lines: none may differ;
 - W, ZTOR, RRUP and Z2.5 estimated: 2 m from the second program's figure before it is rounded, asked for at the first program's own
-  figures before it;
+  figures before it; --tight as they are rounded, W, ZTOR and Z2.5 down, RRUP up, with 5 mm to spare;
 - a refusal: the same number. The one exception is document 01's: where a completed figure is read, the second program is asked at each
   whole metre that the figure's bound allows, and the first program must have answered as one of these;
 - ln median and the sigmas: 5 millionths, --tight 1; the median: 1 + Y/100000, --tight 1 + Y/500000; from the second program's figure
@@ -27,6 +27,9 @@ from programs import HEADER, ROOT, build, command, listed, run
 from random_requests import NAMES, STARRED, refused_lists, requests
 
 METRES = 2
+# How far an estimate may lie below and above the second program's figure, in m: by document 01; and --tight, as the programs round it.
+BOUNDS = {name: (METRES, METRES) for name in ("w", "ztor", "rrup", "z25")}
+ROUNDED = {"w": (1.005, 0.005), "ztor": (1.005, 0.005), "rrup": (0.005, 1.005), "z25": (1.005, 0.005)}
 WHOLE = rb" (0|[1-9]\d*)"
 OK = re.compile(rb"ok" + 5 * WHOLE + rb" ([eg]{5})\Z")
 FIGURES = re.compile(rb"ok" + 5 * WHOLE + rb" ([eg]{5})" + 4 * WHOLE + rb"\Z")
@@ -43,19 +46,20 @@ Answer = collections.namedtuple("Answer", "refusal figures letters exact")
 class Report:
     """How far each figure was off, in units of its bound, and every failure."""
 
-    def __init__(self):
+    def __init__(self, bounds):
+        self.bounds = bounds
         self.count = collections.Counter()
         self.low, self.high = collections.defaultdict(float), collections.defaultdict(float)
         self.failures = []
 
-    def estimate(self, line, name, metres, exact, bound=METRES):
-        """A completed figure and the second program's in mm; whether it lies within its bound."""
-        off = metres - exact / 1000
+    def estimate(self, line, name, metres, exact):
+        """A completed figure and the second program's in mm; whether it lies within its bounds."""
+        off, (below, above) = metres - exact / 1000, self.bounds[name]
         self.count[name] += 1
         self.low[name], self.high[name] = min(self.low[name], off), max(self.high[name], off)
-        if abs(off) > bound:
+        if not -below <= off <= above:
             self.fail(line, f"{name} is {metres}, exact {exact / 1000}")
-        return abs(off) <= bound
+        return -below <= off <= above
 
     def row(self, line, name, measure, off, bound):
         """A predicted figure."""
@@ -295,7 +299,8 @@ def covered(lines, completed):
 def tell(report, accepted, predicted):
     """Prints how far each figure was off."""
     for name in COLUMNS[1:]:
-        print(f"{name}: {report.count[name]} estimated, from {report.low[name]:.3f} to {report.high[name]:.3f} m off, bound {METRES}")
+        below, above = report.bounds[name]
+        print(f"{name}: {report.count[name]} estimated, from {report.low[name]:.3f} to {report.high[name]:.3f} m off, bounds -{below} and {above}")
     print(f"{report.count['apart']} answers differ, {report.count['refused']} of them in being refused")
     for name in predicted:
         worst = max(range(MEASURES), key=lambda m: report.high[name, m])
@@ -311,7 +316,7 @@ def main():
     options = argparse.ArgumentParser(description=__doc__.split("\n")[0])
     options.add_argument("seed", type=int)
     options.add_argument("count", type=int)
-    options.add_argument("--tight", action="store_true", help="one millionth, and 1 + Y/500000")
+    options.add_argument("--tight", action="store_true", help="one millionth, 1 + Y/500000, and estimates as they are rounded")
     options.add_argument("--complete", default=os.path.join(ROOT, "target/bin/complete"))
     options.add_argument("--predict", default=os.path.join(ROOT, "target/bin/predict"))
     options.add_argument("--no-predict", action="store_true", help="compare completed requests alone")
@@ -319,7 +324,7 @@ def main():
     options.add_argument("--second")
     given = options.parse_args()
 
-    report = Report()
+    report = Report(ROUNDED if given.tight else BOUNDS)
     comparison = Comparison(command(given.complete), given.second or build(), report)
     predict = None if given.no_predict else command(given.predict)
     data = requests(given.seed, given.count)
