@@ -6,6 +6,7 @@ use mathlib.Core.List.{_++_}
 use mathlib.Core.Logic.{_↔_}
 use native.Mathlib.Omega.{arith}
 use lib.Dec.{T}
+use lib.ListN.{length}
 use Rattle.request.specs.declared.Request.{Request}
 use Rattle.outcome.specs.declared.Completion.the-variants as C
 use Rattle.refusals.specs.Order.{first, Fires, Silent, InOrder}
@@ -17,6 +18,11 @@ use Rattle.refusals.proofs.Rows.{numbered, first-most, first-absent, first-both
 pub in-order : (r : Request) → InOrder (rows r)
 unfolding rows sourceRows sourceGiven pathRows pathGiven siteRows siteGiven
 in-order r = tt
+
+-- of as many rows
+pub row-count : (r : Request) → length (rows r) ≡ 18
+unfolding rows sourceRows sourceGiven pathRows pathGiven siteRows siteGiven
+row-count r = refl
 
 -- an answer's number is the refusal's
 answer-number : (n : ℕ) (r : Request) → numberOf (answer n r) ≡ n
