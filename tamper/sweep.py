@@ -46,6 +46,7 @@ HEADS = {
 }
 # What is no code and no definition: comments, what is used, contracts, which are claims.
 NOTHING = re.compile(r"//.*|(?:^|(?<=\s))--(?:\s.*|$)|/\*.*?\*/|/\*.*|^.*\*/|^use .*|^ghost .*|^\s*(?:requires|ensures) .*")
+# How long an altered second program may run: a number may stand in a loop's end.
 SECONDS = 600
 
 Change = collections.namedtuple("Change", "kind path name at start end by crate")
@@ -281,10 +282,10 @@ class Copy:
             elif os.path.exists(source):
                 shutil.copy(source, self.root)
 
-    def passes(self, *words):
-        """Whether a command ends well, and ends: a number may stand in a loop's end."""
+    def passes(self, *words, seconds=None):
+        """Whether a command ends well, and in time."""
         try:
-            return subprocess.run(words, cwd=self.root, capture_output=True, timeout=SECONDS).returncode == 0
+            return subprocess.run(words, cwd=self.root, capture_output=True, timeout=seconds).returncode == 0
         except subprocess.TimeoutExpired:
             return False
 
@@ -292,10 +293,10 @@ class Copy:
         """The gate's step for a place: whether it passes."""
         if crate:
             return self.passes("rt", "check", crate)
-        compare = ("python3", "second/compare.py", "1", "6000", "--tight")
-        # what the whole comparison compares first, alone: that is quick
-        completed = self.passes("python3", "second/tables.py") and self.passes(*compare, "--no-predict")
-        return completed and self.passes(*compare, "--rows", "target/c/rows")
+        compare = ("second/compare.py", "1", "6000", "--tight")
+        # the completed requests are compared alone first, which is quick
+        steps = [("second/tables.py",), (*compare, "--no-predict"), (*compare, "--rows", "target/c/rows")]
+        return all(self.passes("python3", *words, seconds=SECONDS) for words in steps)
 
     def try_one(self, change):
         """Alters a number, takes the step, puts the number back: whether the alteration passed."""
