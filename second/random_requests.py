@@ -195,6 +195,8 @@ def every():
     for azimuth in range(-181, 182):
         for rjb in (1, 900, 7000, 90000):
             yield {**whole, "azimuth": azimuth, "rjb": rjb}
+    # so near that a metre of RY shows, which is 0 at 90 degrees
+    yield {**whole, "dip": 45, "w": 1, "ztor": 1, "rjb": 1, "azimuth": 90}
     for rake in range(-181, 182):
         yield {**whole, "rake": rake}
     for dip in ("-", 15, 89, 90):
