@@ -79,7 +79,13 @@ PLACES = [
 
 # More places, of which a sample takes some of each kind only.
 MORE = [
-    ("code", "crates/refusals/src/lib.rt", EVERY, "refusals"),
+    # A refusal's number is held to the specs by the crate that refuses with it.
+    ("code", "crates/refusals/src/lib.rt", of("RAKE MAGNITUDE VS30 DIP WIDTH HYPOCENTRE TOP"), "source_stage"),
+    ("code", "crates/refusals/src/lib.rt", of("RJB AZIMUTH ABOVE RRUP TOO_SHORT"), "path_stage"),
+    ("code", "crates/refusals/src/lib.rt", of("BASIN"), "site_stage"),
+    ("code", "crates/refusals/src/lib.rt", of("NO_MEASURE"), "prediction"),
+    ("code", "crates/refusals/src/lib.rt", of("TOO_LONG"), "lines"),
+    ("code", "crates/refusals/src/lib.rt", of("MALFORMED"), "answer"),
     ("code", "crates/request/src/lib.rt", of("style_of value_of size_of"), "request"),
     ("code", "crates/source_stage/src/lib.rt", of("complete_hypocentre"), "source_stage"),
     ("code", "crates/path_stage/src/lib.rt", of("is_too_short"), "path_stage"),
@@ -183,6 +189,7 @@ LEFT = [
     ("crates/text/specs/*", r"^fieldAt: .*", "past the end of a list: never read"),
     ("crates/tables/specs/*", r"^no(Coefficients|Deviations): .*", "past the end of a list: never read"),
     ("crates/model/specs/*", r"^no(Fine|Shown): .*", "past the end of a list: never read"),
+    ("crates/outcome/specs/*", r"noFigure = .*|^figuresOf: .*", "zeros beside a refusal, where the code's answer has no figures: no law reads them"),
     ("crates/examples/specs/*", r".*", "document 01's examples: the test itself"),
     ("crates/filter/specs/*", r"^statusOf: .*", "what programs/test tries, exit statuses and counts of arguments: the proof takes minutes"),
     ("crates/programs/specs/*", r".*", "what programs/test tries, exit statuses and counts of arguments: the proof takes minutes"),
