@@ -159,6 +159,7 @@ DOWN = [
 SAME = [
     ("crates/model/specs/*", r"(?<=x 1100 )0", "the A1100 of the rock's own site term, which its branch does not read"),
     ("crates/sigmas/src/*", r"if alpha == 0|if more < 0", "what it spares gives the same"),
+    ("crates/reports/src/*", r"^(reports_of|all_shown_of):  +\w+: 0", "what fills an array before every row is written over"),
     ("crates/text/specs/*", r"(?<=getD s 0 )0", "the byte of an empty word: no byte that is asked for"),
     ("crates/lines/specs/*", r"(?<=getD [ls] \d )0", "the byte past an end, where none is"),
     ("crates/lists/specs/*", r"(?<=\(longest \+ 1\) )0|(?<=replicate longest )0", "what fills a place that is not read"),
