@@ -118,6 +118,7 @@ MORE = [
     ("specs", "crates/model/specs/*.antt", of("report"), "reports"),
     ("specs", "crates/model/specs/*.antt", of("noRow"), "prediction"),
     ("specs", "crates/site/specs/*.antt", EVERY, "site"),
+    ("specs", "crates/lent/specs/*.antt", of("numberOf"), "export"),
     ("specs", "crates/lent/specs/*.antt", EVERY, "lent"),
     ("specs", "crates/numerals/specs/*.antt", of("digit0 digitsIn"), "numerals"),
     ("specs", "crates/numerals/specs/*.antt", of("space minus digit9"), "text"),
