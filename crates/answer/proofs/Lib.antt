@@ -1,4 +1,5 @@
 pub mod RowLaws
 pub mod SheetLaws
 pub mod LongestAnswer
+pub mod SomeAnswer
 pub mod AnswerExamples

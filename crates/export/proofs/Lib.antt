@@ -3,3 +3,4 @@ pub mod LineLaws
 pub mod MeasureLaws
 pub mod SpectrumLaws
 pub mod OneAnswer
+pub mod TellLaws

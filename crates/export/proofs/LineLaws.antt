@@ -31,41 +31,13 @@ use Rattle.answer.specs.RowLines.{rowLine, rowLines, spectrumLines}
 use Rattle.answer.specs.Sheets.{sheetOf, replyOf, answerTo, longestAnswer}
 use Rattle.answer.proofs.RowLaws.{length-row, refused-line, good-lines}
 use Rattle.answer.proofs.LongestAnswer.{answer-short}
+use Rattle.answer.proofs.SomeAnswer.{some-answer}
 use Rattle.export.specs.Given.{LineGiven}
 
 -- ---- the count
 -- what a line writer promises, its answer counted
 pub line-given : {b s : List ℕ} {w : Wrote} {b₁ : List ℕ} (n : ℕ) → LentWritten b s w b₁ → n ≡ countOf w → LineGiven b s n b₁
 line-given n w e = record { count = e ∙ ap countOf (w .answer); bytes = w .became }
-
--- ---- no answer is empty
-some-completion : (c : Completion) → 0 < length (completionLine c)
-unfolding completionLine
-some-completion (C.Done c) = omega (arith, length-ok c)
-some-completion (C.Refused n) = omega (arith, length-no n)
-
-some-rows : (rows : List Shown) → 0 < length (rowLines measures rows)
-unfolding rowLines
-some-rows rows =
-    omega (arith, length-append (rowLines 23 rows) (rowLine 23 (getD rows 23 noShown)), length-row 23 (getD rows 23 noShown))
-
-some-spectrum : (s : ShownSpectrum) → 0 < length (spectrumLines s)
-some-spectrum s = go (eqb (s .refusal) 0) refl
-  where
-    go : (t : Bool) → eqb (s .refusal) 0 ≡ t → 0 < length (spectrumLines s)
-    go true e = omega (arith, ap length (good-lines s (eqb-true (s .refusal) 0 e)), some-rows (s .rows))
-    go false e = omega (arith, ap length (refused-line s (eqb-false (s .refusal) 0 e)), length-no (s .refusal))
-
-some-reply : (sheet : Sheet) (l : Line) → 0 < length (replyOf sheet l)
-unfolding replyOf sheetOf
-some-reply S.Completion (L.Is r) = some-completion (completionOf r)
-some-reply S.Prediction (L.Is r) = some-spectrum (shownSpectrumOf r)
-some-reply S.Completion L.Malformed = omega (arith, length-no No.malformed)
-some-reply S.Prediction L.Malformed = omega (arith, length-no No.malformed)
-
-pub some-answer : (sheet : Sheet) (s : List ℕ) → 0 < length (answerTo sheet s)
-unfolding answerTo
-some-answer sheet s = some-reply sheet (lineOf s)
 
 -- ---- what the count says
 module _ {b s : List ℕ} {n : ℕ} {b₁ : List ℕ} (g : LineGiven b s n b₁) where

@@ -1,5 +1,6 @@
 // The functions that a service in C or Rust and a valve's controller call. None asks anything of the
 // bytes and numbers that it is lent, and a refusal changes none of them.
+mod parts;
 mod rows;
 
 use answer::Sheet;

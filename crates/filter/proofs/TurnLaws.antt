@@ -9,22 +9,20 @@ use native.Mathlib.Omega.{arith}
 use lib.Dec.{eqb, ltb}
 use lib.IntN.{ℤ, pos, negsuc}
 use lib.Signed.{ltZ}
-use lib.ListN.{length, take, drop, length-append}
-use lib.Seq.{drop-at}
+use lib.ListN.{length, take, drop}
 use Rattle.io.specs.Counts.{clamped}
 use Rattle.exact.proofs.Signed.{lt-parts, nlt-parts}
-use Rattle.lent.specs.Lent.{put, LentWritten}
+use Rattle.lent.specs.Lent.{put}
 use Rattle.lent.proofs.PutLaws.{take-put}
 use Rattle.numerals.specs.Render.{lf}
-use Rattle.lent.specs.declared.Wrote.the-variants as W
-use Rattle.lent.proofs.WroteLaws.{to-fits, after-fits}
 use Rattle.answer.specs.declared.Sheet.{Sheet}
 use Rattle.answer.specs.Sheets.{answerTo}
 use Rattle.lists.specs.declared.Reader.{Reader}
 use Rattle.lists.specs.declared.Taken.{Taken}
-use Rattle.lists.specs.Parts.{lineIn, fresh, grown, Stand, readFrom, PartTaken}
-use Rattle.lists.proofs.Progress.{wrote-fits}
-use Rattle.lists.specs.Parts.{newReader}
+use Rattle.lists.specs.Parts.{lineIn, newReader, fresh, grown, closing, Stand, readFrom, standIn, partAnswer, notTaken, PartTaken, Closed}
+use Rattle.lists.proofs.StandLaws.{answer-full, answer-fits, not-taken-full, not-taken-fits}
+use Rattle.lists.proofs.CloseLaws.{closed-wrote, closed-bytes}
+use Rattle.lists.proofs.Progress.{fits-or-full, wrote-text, wrote-fits}
 use Rattle.filter.specs.declared.State.{State}
 use Rattle.filter.specs.declared.State.the-variants as S
 use Rattle.filter.specs.declared.Turn.{Turn}
@@ -48,58 +46,55 @@ after-append r (c ∷ cs) b = go (eqb c lf) (after-append (fresh r) cs b) (after
 first : (b s : List ℕ) → length s ≤ length b → take (length s) (put b 0 s) ≡ s
 first b s h = ap (λ (n : ℕ). take n (put b 0 s)) (sym (zero-add (length s))) ∙ take-put b 0 s (omega arith)
 
-pub line-stands : {b s b₁ : List ℕ} {n : ℕ} → LentWritten b s (W.To n) b₁ → take n b₁ ≡ s
-line-stands {b} {s} {b₁} {n} w =
-    let f = to-fits (length b) s n (w .answer) in
-    ap (λ (k : ℕ). take k b₁) (f .1) ∙ ap (take (length s)) (w .became ∙ after-fits b s (f .0)) ∙ first b s (f .0)
+pub closing-stands : {r : Reader} {b : List ℕ} {t : Taken} {b₁ : List ℕ} → Closed r b t b₁ → length (closing r) ≤ length b → take (t .wrote) b₁ ≡ closing r
+closing-stands {r} {b} {t} {b₁} p h =
+    ap (λ (k : ℕ). take k b₁) (closed-wrote p h) ∙ ap (take (length (closing r))) (closed-bytes p h) ∙ first b (closing r) h
 
 -- ---- a part, of which the reader leaves what does not fit
--- what stands before the bytes left, and the reader after these too
-record Left (part : List ℕ) (last : Reader) (p : Stand) : Type 0 where
-  front : List ℕ
-  whole : front ++ p .left ≡ part
-  same : readerAfter (p .reader) (p .left) ≡ last
+-- what the bytes left make of the reader
+abbrev After : Stand → Reader → Type 0
+After p last = readerAfter (p .reader) (p .left) ≡ last
 
 module _ (sheet : Sheet) (room : ℕ) where
-  leaves : (r : Reader) (text part : List ℕ) → Left part (readerAfter r part) (readFrom sheet room r text part)
+  -- the bytes left make of the reader what the part would have made
+  same-after : (r : Reader) (text part : List ℕ) → readerAfter (readFrom sheet room r text part .reader) (readFrom sheet room r text part .left) ≡ readerAfter r part
   unfolding readFrom readerAfter
-  leaves r text [] = record { front = []; whole = refl; same = refl }
-  leaves r text (c ∷ cs) =
-      go (eqb c lf) (ltb room (length (text ++ answerTo sheet (lineIn r)))) refl (leaves (fresh r) (text ++ answerTo sheet (lineIn r)) cs) (leaves (grown r c) text cs)
+  same-after r text [] = refl
+  same-after r text (c ∷ cs) =
+      go (eqb c lf) (ltb room (length (text ++ answerTo sheet (lineIn r)))) refl (same-after (fresh r) (text ++ answerTo sheet (lineIn r)) cs) (same-after (grown r c) text cs)
     where
       go : (a b : Bool) → eqb c lf ≡ a
-          → Left cs (readerAfter (fresh r) cs) (readFrom sheet room (fresh r) (text ++ answerTo sheet (lineIn r)) cs)
-          → Left cs (readerAfter (grown r c) cs) (readFrom sheet room (grown r c) text cs)
-          → Left (c ∷ cs) (cond a (readerAfter (fresh r) cs) (readerAfter (grown r c) cs))
+          → After (readFrom sheet room (fresh r) (text ++ answerTo sheet (lineIn r)) cs) (readerAfter (fresh r) cs)
+          → After (readFrom sheet room (grown r c) text cs) (readerAfter (grown r c) cs)
+          → After
           (cond a (cond b (record { reader = r; text = text; left = c ∷ cs }) (readFrom sheet room (fresh r) (text ++ answerTo sheet (lineIn r)) cs))
           (readFrom sheet room (grown r c) text cs))
-      go true true e f g = record { front = []; whole = refl; same = rw e }
-      go true false e f g = record { front = c ∷ f .front; whole = ap (λ (l : List ℕ). c ∷ l) (f .whole); same = f .same }
-      go false b e f g = record { front = c ∷ g .front; whole = ap (λ (l : List ℕ). c ∷ l) (g .whole); same = g .same }
+          (cond a (readerAfter (fresh r) cs) (readerAfter (grown r c) cs))
+      go true true e f g = rw e
+      go true false e f g = f
+      go false b e f g = g
 
 module _ {sheet : Sheet} {r : Reader} {part b : List ℕ} {t : Taken} {b₁ : List ℕ} (p : PartTaken sheet r part b t b₁) where
-  abbrev stand : Stand
-  stand = readFrom sheet (length b) r [] part
-
-  left-over : stand .left ≡ drop (t .took) part
-  left-over =
-      let l = leaves sheet (length b) r [] part in
-      sym (drop-at (l .front) (stand .left) (t .took) (omega (arith, p .took, ap length (l .whole), length-append (l .front) (stand .left))))
-      ∙ ap (drop (t .took)) (l .whole)
-
-  -- the bytes not taken make of the reader what the part would have made
+  -- so do those not taken
   pub goes-on : readerAfter (t .reader) (drop (t .took) part) ≡ readerAfter r part
   goes-on =
-      ap (λ (q : Reader). readerAfter q (drop (t .took) part)) (p .reader)
-      ∙ ap (readerAfter (stand .reader)) (sym left-over)
-      ∙ leaves sheet (length b) r [] part .same
+      ap (λ (u : Taken). readerAfter (u .reader) (drop (u .took) part)) (p .answer)
+      ∙ fits-or-full sheet (length b) r part
+      (readerAfter (partAnswer sheet (length b) r part .reader) (notTaken sheet (length b) r part) ≡ readerAfter r part)
+      (λ h.
+      ap (λ (u : Taken). readerAfter (u .reader) (notTaken sheet (length b) r part)) (answer-fits sheet (length b) r part h)
+      ∙ ap (readerAfter (standIn sheet (length b) r part .reader)) (not-taken-fits sheet (length b) r part h)
+      ∙ same-after sheet (length b) r [] part)
+      (λ h.
+      ap (λ (u : Taken). readerAfter (u .reader) (notTaken sheet (length b) r part)) (answer-full sheet (length b) r part h)
+      ∙ ap (readerAfter r) (not-taken-full sheet (length b) r part h))
 
   -- what stands first in the lent bytes is the text
   pub answers-stand : length b₁ ≡ length b → take (t .wrote) b₁ ≡ readFrom sheet (length b₁) r [] part .text
   answers-stand e =
-      ap (λ (n : ℕ). take n b₁) (p .wrote)
-      ∙ ap (take (length (stand .text))) (p .bytes)
-      ∙ first b (stand .text) (omega (arith, p .wrote, wrote-fits p))
+      ap (λ (n : ℕ). take n b₁) (wrote-text p)
+      ∙ ap (take (length (standIn sheet (length b) r part .text))) (p .bytes)
+      ∙ first b (standIn sheet (length b) r part .text) (omega (arith, wrote-text p, wrote-fits p))
       ∙ ap (λ (n : ℕ). readFrom sheet n r [] part .text) (sym e)
 
 -- ---- what `read` answered

@@ -1,7 +1,6 @@
 // What the programs share: a list of requests on standard input, the header and the answers of a
 // sheet on standard output. It holds two blocks and a reader, however long the list is.
 use answer::Sheet;
-use lent::Wrote;
 use libc::STDIN_FILENO;
 use libc::STDOUT_FILENO;
 use lists::Reader;
@@ -147,8 +146,9 @@ fn read_list(sheet: Sheet, input: &mut [u8], out: &mut [u8]) -> Turn
     }
 }
 
-// Writes what a last line without an LF gets, once the list has ended.
+// Writes what a last line without an LF gets, once the list has ended. There is room for it.
 fn end_list(turn: Turn, out: &mut [u8]) -> State
+    requires { ⌜ length (closing (turn .reader)) ≤ length (now out) ⌝ }
     ensures { λ s. ⌜ EndTurn (turn .state) s ⌝ }
 {
     let state = turn.state;
@@ -156,10 +156,9 @@ fn end_list(turn: Turn, out: &mut [u8]) -> State
         return state;
     };
     let reader = turn.reader;
-    let Wrote::To(n) = close_list(reader, out) else {
-        return State::Unwritten;
-    };
-    if put_closing(reader, &out[..n]) {
+    let closed = close_list(reader, out);
+    let wrote = closed.wrote;
+    if put_closing(reader, &out[..wrote]) {
         State::Ended
     } else {
         State::Unwritten

@@ -1,4 +1,6 @@
 pub mod HeldLaws
+pub mod StandLaws
 pub mod PartLaws
-pub mod WholeList
+pub mod CloseLaws
 pub mod Progress
+pub mod WholeList

@@ -1,10 +1,12 @@
 -- The reader byte by byte: what holds from turn to turn of the loop over a part, and what each turn does to it. Assumes nothing.
 use Prim.Native.Nat.{ℕ, _+_, _-_, _≤_, _<_}
 use mathlib.Core.Path.{_≡_, refl, sym, ap, subst, _∙_}
+use mathlib.Core.Bool.{Bool, true, false}
 use mathlib.Core.List.{List, [], _++_}
 use native.Mathlib.Omega.{arith}
 use native.Mathlib.Numerals.{add-one}
-use borrow.Author.Tests.{eq-eqb, ne-eqb, lt-ltb, le-ltb}
+use borrow.Author.Tests.{eq-eqb, ne-eqb, lt-ltb, le-ltb, ltb-true, ltb-false}
+use lib.Dec.{ltb}
 use lib.ListN.{length, getD, take, drop, set, length-append, length-drop, length-set, drop-of-length-le}
 use lib.Seq.{drop-cons, drop-drop, length-take-le}
 use Rattle.lent.specs.declared.Wrote.the-variants as W
@@ -18,7 +20,8 @@ use Rattle.answer.specs.declared.Sheet.{Sheet}
 use Rattle.answer.specs.Sheets.{answerTo}
 use Rattle.lists.specs.declared.Reader.{Reader}
 use Rattle.lists.specs.declared.Taken.{Taken}
-use Rattle.lists.specs.Parts.{lineIn, fresh, grown, Stand, readFrom, PartTaken}
+use Rattle.lists.specs.Parts.{lineIn, fresh, grown, Stand, readFrom, standIn, firstAnswer, noRoom, PartTaken}
+use Rattle.lists.proofs.StandLaws.{first-full, first-fits, answer-full, answer-fits}
 
 -- ---- what the reader makes of a part from a place on, by the byte at that place
 module _ (sheet : Sheet) (room : ℕ) (r : Reader) (text part : List ℕ) (i : ℕ) where
@@ -43,6 +46,31 @@ module _ (sheet : Sheet) (room : ℕ) (r : Reader) (text part : List ℕ) (i : �
     unfolding readFrom
     from-byte e = rw (drop-cons part i 0 inside, ne-eqb (getD part i 0) lf e, add-one i)
 
+-- ---- the answer
+same-taken : {a b : Reader} {i j m n : ℕ} → a ≡ b → i ≡ j → m ≡ n
+    → _≡_ {A = Taken} (record { refusal = 0; reader = a; took = i; wrote = m }) (record { refusal = 0; reader = b; took = j; wrote = n })
+same-taken p q e = cc
+
+module _ (sheet : Sheet) (room : ℕ) (r : Reader) (part : List ℕ) where
+  -- the first answer fits, where bytes left say that some were written
+  not-full : (0 < length (standIn sheet room r part .left) → 0 < length (standIn sheet room r part .text)) → length (firstAnswer sheet r part) ≤ room
+  not-full some = go (ltb room (length (firstAnswer sheet r part))) refl
+    where
+      go : (t : Bool) → ltb room (length (firstAnswer sheet r part)) ≡ t → length (firstAnswer sheet r part) ≤ room
+      go true e =
+          let f = first-full sheet room r part (ltb-true room (length (firstAnswer sheet r part)) e) in
+          absurd (omega (arith, ap length (f .0), some (f .1)))
+      go false e = ltb-false room (length (firstAnswer sheet r part)) e
+
+  -- it does not, where some are left and none was written
+  not-fits : 0 < length (standIn sheet room r part .left) → length (standIn sheet room r part .text) ≡ 0 → room < length (firstAnswer sheet r part)
+  not-fits some none = go (ltb room (length (firstAnswer sheet r part))) refl
+    where
+      go : (t : Bool) → ltb room (length (firstAnswer sheet r part)) ≡ t → room < length (firstAnswer sheet r part)
+      go true e = ltb-true room (length (firstAnswer sheet r part)) e
+      go false e = absurd (omega (arith, none, first-fits sheet room r part (ltb-false room (length (firstAnswer sheet r part)) e) some))
+
+-- ---- one byte more
 pub grown-held : (r : Reader) (c : ℕ) → r .count < longest → grown r c ≡ record { held = set (r .held) (r .count) c; count = r .count + 1 }
 unfolding grown
 grown-held r c h = rw (lt-ltb (r .count) longest h)
@@ -55,14 +83,15 @@ grown-over r c h = rw (le-ltb (r .count) longest h)
 -- the rest of the part makes of the reader and the text so far what the whole part makes of the reader at its start
 pub record Going (sheet : Sheet) (part out₀ : List ℕ) (r₀ r : Reader) (out : List ℕ) (wrote i : ℕ) : Type 0 where
   pub held-length : length (r .held) ≡ longest
+  pub counted : r .count ≤ 255
   pub taken : i ≤ length part
   pub written : wrote ≤ length out
   pub out-length : length out ≡ length out₀
   pub behind : drop wrote out ≡ drop wrote out₀
   pub same : readFrom sheet (length out₀) r (take wrote out) (drop i part) ≡ readFrom sheet (length out₀) r₀ [] part
 
-pub begins : (sheet : Sheet) (part out : List ℕ) (r : Reader) → length (r .held) ≡ longest → Going sheet part out r r out 0 0
-begins sheet part out r h = record { held-length = h; taken = omega arith; written = omega arith; out-length = refl; behind = refl; same = refl }
+pub begins : (sheet : Sheet) (part out : List ℕ) (r : Reader) → length (r .held) ≡ longest → r .count ≤ 255 → Going sheet part out r r out 0 0
+begins sheet part out r h k = record { held-length = h; counted = k; taken = omega arith; written = omega arith; out-length = refl; behind = refl; same = refl }
 
 module _ {sheet : Sheet} {part out₀ : List ℕ} {r₀ r : Reader} {out : List ℕ} {wrote i : ℕ} (g : Going sheet part out₀ r₀ r out wrote i) where
   -- what is left of the lent bytes
@@ -73,21 +102,41 @@ module _ {sheet : Sheet} {part out₀ : List ℕ} {r₀ r : Reader} {out : List 
   both : (s : List ℕ) → length (take wrote out ++ s) ≡ wrote + length s
   both s = omega (arith, length-append (take wrote out) s, length-take-le wrote out (g .written))
 
-  -- what is promised, where the reader stops
-  stops : (l : List ℕ) → readFrom sheet (length out₀) r (take wrote out) (drop i part) ≡ record { reader = r; text = take wrote out; left = l }
-      → i + length l ≡ length part → PartTaken sheet r₀ part out₀ (record { reader = r; took = i; wrote = wrote }) out
-  stops l here left =
-      let e = sym (g .same) ∙ here in
-      record {
-        reader = sym (ap (λ (p : Stand). p .reader) e);
-        took = omega (arith, ap (λ (p : Stand). length (p .left)) e);
-        wrote = sym (ap (λ (p : Stand). length (p .text)) e ∙ length-take-le wrote out (g .written));
-        bytes = put-front out₀ out wrote (g .written) (g .behind) ∙ sym (ap (λ (p : Stand). put out₀ 0 (p .text)) e);
-      }
+  -- where the reader stops: the text is what stands in the lent bytes
+  module _ (l : List ℕ) (here : readFrom sheet (length out₀) r (take wrote out) (drop i part) ≡ record { reader = r; text = take wrote out; left = l }) where
+    stand-is : standIn sheet (length out₀) r₀ part ≡ record { reader = r; text = take wrote out; left = l }
+    stand-is = sym (g .same) ∙ here
+
+    text-is : length (standIn sheet (length out₀) r₀ part .text) ≡ wrote
+    text-is = ap (λ (p : Stand). length (p .text)) stand-is ∙ length-take-le wrote out (g .written)
+
+    left-are : length (standIn sheet (length out₀) r₀ part .left) ≡ length l
+    left-are = ap (λ (p : Stand). length (p .left)) stand-is
+
+    bytes-are : out ≡ put out₀ 0 (standIn sheet (length out₀) r₀ part .text)
+    bytes-are = put-front out₀ out wrote (g .written) (g .behind) ∙ sym (ap (λ (p : Stand). put out₀ 0 (p .text)) stand-is)
+
+    -- what is promised: bytes were written, or none is left
+    taken-to : i + length l ≡ length part → (0 < length l → 0 < wrote) → PartTaken sheet r₀ part out₀ (record { refusal = 0; reader = r; took = i; wrote = wrote }) out
+    taken-to left some =
+        record {
+          answer =
+              same-taken (sym (ap (λ (p : Stand). p .reader) stand-is)) (omega (arith, left-are)) (sym text-is)
+              ∙ sym (answer-fits sheet (length out₀) r₀ part (not-full sheet (length out₀) r₀ part (λ k. omega (arith, text-is, left-are, k, some (omega (arith, left-are, k))))));
+          bytes = bytes-are;
+        }
+
+    -- or none was, and some are left
+    refused-at : wrote ≡ 0 → 0 < length l → PartTaken sheet r₀ part out₀ (noRoom r₀) out
+    refused-at none some =
+        record {
+          answer = sym (answer-full sheet (length out₀) r₀ part (not-fits sheet (length out₀) r₀ part (omega (arith, left-are)) (omega (arith, text-is))));
+          bytes = bytes-are;
+        }
 
   -- at the end of the part
-  pub ends : length part ≤ i → PartTaken sheet r₀ part out₀ (record { reader = r; took = i; wrote = wrote }) out
-  ends h = stops [] (from-end sheet (length out₀) r (take wrote out) part i h) (omega (arith, g .taken))
+  pub ends : length part ≤ i → PartTaken sheet r₀ part out₀ (record { refusal = 0; reader = r; took = i; wrote = wrote }) out
+  ends h = taken-to [] (from-end sheet (length out₀) r (take wrote out) part i h) (omega (arith, g .taken)) (λ k. absurd (omega arith))
 
   module _ (inside : i < length part) where
     -- a byte of a line
@@ -96,6 +145,7 @@ module _ {sheet : Sheet} {part out₀ : List ℕ} {r₀ r : Reader} {out : List 
     byte-held e h =
         record {
           held-length = length-set (r .held) (r .count) (getD part i 0) ∙ g .held-length;
+          counted = omega arith;
           taken = omega arith;
           written = g .written;
           out-length = g .out-length;
@@ -108,6 +158,7 @@ module _ {sheet : Sheet} {part out₀ : List ℕ} {r₀ r : Reader} {out : List 
     byte-over e h =
         record {
           held-length = g .held-length;
+          counted = omega arith;
           taken = omega arith;
           written = g .written;
           out-length = g .out-length;
@@ -124,6 +175,7 @@ module _ {sheet : Sheet} {part out₀ : List ℕ} {r₀ r : Reader} {out : List 
       line-put h =
           record {
             held-length = g .held-length;
+            counted = omega arith;
             taken = omega arith;
             written = omega (arith, length-put out wrote line h);
             out-length = length-put out wrote line h ∙ g .out-length;
@@ -138,11 +190,8 @@ module _ {sheet : Sheet} {part out₀ : List ℕ} {r₀ r : Reader} {out : List 
                 ∙ g .same;
           }
 
-      line-full : length out < wrote + length line → PartTaken sheet r₀ part out₀ (record { reader = r; took = i; wrote = wrote }) out
-      line-full h =
-          stops (drop i part)
-          (from-full sheet (length out₀) r (take wrote out) part i inside e (omega (arith, both line, g .out-length)))
-          (omega (arith, length-drop i part))
+      full : length out < wrote + length line → readFrom sheet (length out₀) r (take wrote out) (drop i part) ≡ record { reader = r; text = take wrote out; left = drop i part }
+      full h = from-full sheet (length out₀) r (take wrote out) part i inside e (omega (arith, both line, g .out-length))
 
       -- the answer is written into what is left of the lent bytes
       pub line-answered : {x : List ℕ} (n : ℕ) → LentWritten (drop wrote out) line (W.To n) x
@@ -154,21 +203,24 @@ module _ {sheet : Sheet} {part out₀ : List ℕ} {r₀ r : Reader} {out : List 
           (subst (λ (k : ℕ). Going sheet part out₀ r₀ (fresh r) (put out wrote line) (wrote + k) (i + 1)) (sym (f .1))
           (line-put (omega (arith, f .0, left-over, g .written))))
 
-      -- or it is refused, and nothing has changed
-      pub line-refused : {x : List ℕ} (n : ℕ) → LentWritten (drop wrote out) line (W.Refused n) x
-          → PartTaken sheet r₀ part out₀ (record { reader = r; took = i; wrote = wrote }) (givenBack out wrote x)
-      line-refused {x} n w =
-          let h = refused-full (length (drop wrote out)) line n (w .answer) in
-          let same : x ≡ drop wrote out = w .became ∙ after-full (drop wrote out) line h in
-          subst (λ (b : List ℕ). PartTaken sheet r₀ part out₀ (record { reader = r; took = i; wrote = wrote }) b)
-          (sym (ap (givenBack out wrote) same ∙ back-same out wrote))
-          (line-full (omega (arith, left-over, g .written)))
+      -- or it is too long for them, and they are as they were
+      module _ {x : List ℕ} (n : ℕ) (w : LentWritten (drop wrote out) line (W.Refused n) x) where
+        too-long : length out < wrote + length line
+        too-long = omega (arith, refused-full (length (drop wrote out)) line n (w .answer), left-over, g .written)
+
+        same-bytes : givenBack out wrote x ≡ out
+        same-bytes =
+            ap (givenBack out wrote) (w .became ∙ after-full (drop wrote out) line (refused-full (length (drop wrote out)) line n (w .answer)))
+            ∙ back-same out wrote
+
+        -- so that the call is refused where it is the first
+        pub line-refused : wrote ≡ 0 → PartTaken sheet r₀ part out₀ (noRoom r₀) (givenBack out wrote x)
+        line-refused k = rw same-bytes (refused-at (drop i part) (full too-long) k (omega (arith, length-drop i part)))
+
+        -- and else stops before its LF
+        pub line-stops : 0 < wrote → PartTaken sheet r₀ part out₀ (record { refusal = 0; reader = r; took = i; wrote = wrote }) (givenBack out wrote x)
+        line-stops k = rw same-bytes (taken-to (drop i part) (full too-long) (omega (arith, length-drop i part)) (λ _. k))
 
 -- ---- one answer and one state of the bytes
-same-taken : {a b : Reader} {i j m n : ℕ} → a ≡ b → i ≡ j → m ≡ n
-    → _≡_ {A = Taken} (record { reader = a; took = i; wrote = m }) (record { reader = b; took = j; wrote = n })
-same-taken p q e = cc
-
 pub part-taken-one : {sheet : Sheet} {r : Reader} {part b : List ℕ} {t u : Taken} {b₁ b₂ : List ℕ} → PartTaken sheet r part b t b₁ → PartTaken sheet r part b u b₂ → (t ≡ u) × (b₁ ≡ b₂)
-part-taken-one v w =
-    (same-taken (v .reader ∙ sym (w .reader)) (omega (arith, v .took, w .took)) (v .wrote ∙ sym (w .wrote)), v .bytes ∙ sym (w .bytes))
+part-taken-one v w = (v .answer ∙ sym (w .answer), v .bytes ∙ sym (w .bytes))

@@ -16,10 +16,13 @@ use Rattle.numerals.specs.Render.{lf}
 use Rattle.answer.specs.declared.Sheet.{Sheet}
 use Rattle.answer.specs.Sheets.{answerTo}
 use Rattle.lists.specs.declared.Reader.{Reader}
+use Rattle.lists.specs.declared.Taken.{Taken}
 use Rattle.lists.specs.Whole.{answersFrom, answersTo}
-use Rattle.lists.specs.Parts.{lineIn, newReader, fresh, grown, closing, Stand, readFrom, Answered, closed, offered}
+use Rattle.lists.specs.Parts.{lineIn, newReader, fresh, grown, closing, Stand, readFrom, standIn, firstAnswer, partAnswer, notTaken, Answered, closed, unclosed, offered}
 use Rattle.lists.proofs.HeldLaws.{held-over, held-whole, over-answer}
+use Rattle.lists.proofs.StandLaws.{first-full, answer-full, answer-fits, not-taken-full, not-taken-fits}
 use Rattle.lists.proofs.PartLaws.{grown-held, grown-over}
+use Rattle.lists.proofs.CloseLaws.{close-full, close-sixteen}
 
 -- ---- lines too long are all alike
 pub over-alike : (sheet : Sheet) (a b s : List ℕ) → longest < length a → longest < length b → answersFrom sheet a s ≡ answersFrom sheet b s
@@ -134,14 +137,53 @@ module _ (sheet : Sheet) (room : ℕ) (s : List ℕ) where
       go false b f g = g
 
 -- ---- a whole list
-answered-from : {sheet : Sheet} {r : Reader} {s text : List ℕ} → length (r .held) ≡ longest → Answered sheet r s text → text ≡ answersFrom sheet (lineIn r) s
-unfolding closing answersFrom
-answered-from {sheet} h (closed r) = refl
-answered-from {sheet} h (offered room r part s text a) =
-    ap (λ (l : List ℕ). readFrom sheet room r [] part .text ++ l) (answered-from (part-full sheet room s r [] part h) a)
-    ∙ sym (part-is sheet room s r [] part h)
+-- what is owed for a part that is refused is owed still
+module _ (sheet : Sheet) (room : ℕ) (r : Reader) (full : length (r .held) ≡ longest) (part s text : List ℕ) where
+  abbrev next : Reader
+  next = partAnswer sheet room r part .reader
 
--- joined they are the answers to the list, however it was cut and whatever room was lent
+  abbrev rest : List ℕ
+  rest = notTaken sheet room r part ++ s
+
+  next-full : length (next .held) ≡ longest
+  next-full = go (ltb room (length (firstAnswer sheet r part))) refl
+    where
+      go : (t : Bool) → ltb room (length (firstAnswer sheet r part)) ≡ t → length (next .held) ≡ longest
+      go true e =
+          ap (λ (t : Taken). length (t .reader .held)) (answer-full sheet room r part (ltb-true room (length (firstAnswer sheet r part)) e)) ∙ full
+      go false e =
+          ap (λ (t : Taken). length (t .reader .held)) (answer-fits sheet room r part (ltb-false room (length (firstAnswer sheet r part)) e))
+          ∙ part-full sheet room s r [] part full
+
+  one-call : text ≡ answersFrom sheet (lineIn next) rest → standIn sheet room r part .text ++ text ≡ answersFrom sheet (lineIn r) (part ++ s)
+  one-call e = go (ltb room (length (firstAnswer sheet r part))) refl
+    where
+      go : (t : Bool) → ltb room (length (firstAnswer sheet r part)) ≡ t → standIn sheet room r part .text ++ text ≡ answersFrom sheet (lineIn r) (part ++ s)
+      go true f =
+          let h = ltb-true room (length (firstAnswer sheet r part)) f in
+          ap (λ (l : List ℕ). l ++ text) (first-full sheet room r part h .0)
+          ∙ e
+          ∙ ap (λ (t : Taken). answersFrom sheet (lineIn (t .reader)) rest) (answer-full sheet room r part h)
+          ∙ ap (λ (l : List ℕ). answersFrom sheet (lineIn r) (l ++ s)) (not-taken-full sheet room r part h)
+      go false f =
+          let h = ltb-false room (length (firstAnswer sheet r part)) f in
+          ap (λ (l : List ℕ). standIn sheet room r part .text ++ l)
+          (e
+          ∙ ap (λ (t : Taken). answersFrom sheet (lineIn (t .reader)) rest) (answer-fits sheet room r part h)
+          ∙ ap (λ (l : List ℕ). answersFrom sheet (lineIn (standIn sheet room r part .reader)) (l ++ s)) (not-taken-fits sheet room r part h))
+          ∙ sym (part-is sheet room s r [] part full)
+
+-- from any reader on: what its line and the list after it get
+pub answered-from : {sheet : Sheet} {r : Reader} {s text : List ℕ} → length (r .held) ≡ longest → Answered sheet r s text → text ≡ answersFrom sheet (lineIn r) s
+unfolding closing answersFrom
+answered-from {sheet} h (closed room r e) = refl
+answered-from {sheet} h (unclosed room r text e a) =
+    let same = ap (λ (t : Taken). t .reader) (close-full room r (close-sixteen room r .0 e)) in
+    answered-from (ap (λ (q : Reader). length (q .held)) same ∙ h) a ∙ ap (λ (q : Reader). answersFrom sheet (lineIn q) []) same
+answered-from {sheet} h (offered room r part s text a) =
+    one-call sheet room r h part s text (answered-from (next-full sheet room r h part s text) a)
+
+-- joined they are the answers to the list, however it was cut, whatever room was lent, and whenever a call was refused
 pub answered-whole : {sheet : Sheet} {s text : List ℕ} → Answered sheet newReader s text → text ≡ answersTo sheet s
 unfolding answersTo
 answered-whole {sheet} {s} a =

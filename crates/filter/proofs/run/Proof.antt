@@ -5,6 +5,7 @@ use borrow.Author.Needs.{needs}
 use Rattle.answer.specs.declared.Sheet.{Sheet}
 use Rattle.answer.specs.declared.Sheet.the-variants as S
 use Rattle.answer.specs.Sheets.{longestAnswer}
+use Rattle.lists.proofs.CloseLaws.{closing-short}
 use Rattle.filter.specs.declared.State.{State}
 use Rattle.filter.specs.declared.State.the-variants as T
 use Rattle.filter.specs.Turns.{statusOf}
@@ -46,7 +47,10 @@ slice-aggregate-end-list : tie.Need-slice-aggregate-end-list
 slice-aggregate-end-list c = search needs
 
 end-list-requires : tie.Need-end-list-requires
-end-list-requires c κs = search needs
+end-list-requires c κs =
+    let l = c .before .before .before in
+    let sheet = l .before .before .before .before .before .before .before .args .sheet in
+    omega (arith, closing-short sheet (l .read-list .result .reader), enough sheet, l .read-list .kept .1 .1 .0)
 
 status-of-requires-2 : tie.Need-status-of-requires-2
 status-of-requires-2 c κs = search needs

@@ -11,21 +11,21 @@ use Rattle.lent.proofs.WroteLaws.{to-fits}
 use Rattle.lent.proofs.PartLaws.{rest}
 use Rattle.answer.specs.Sheets.{answerTo}
 use Rattle.lists.specs.Parts.{heldLine}
-use Rattle.lists.proofs.PartLaws.{Going, begins, ends, byte-held, byte-over, line-answered, line-refused}
+use Rattle.lists.proofs.PartLaws.{Going, begins, ends, byte-held, byte-over, line-answered, line-refused, line-stops}
 use Rattle.lists.proofs.take_part.Statement.{statement}
 use Rattle.lists.proofs.take_part.Tie as tie
 
 abbrev Inv-loop : tie.InvT-loop
-Inv-loop sheet part out₀ held₀ count₀ wrote₀ i₀ out held count wrote i =
-    Going sheet part out₀ (record { held = held₀; count = count₀ }) (record { held = held; count = count }) out wrote i
+Inv-loop sheet r part out₀ held₀ count₀ wrote₀ i₀ out held count wrote i =
+    Going sheet part out₀ r (record { held = held; count = count }) out wrote i
 
 abbrev μ-loop : tie.MeasureT-loop
-μ-loop sheet part out₀ held₀ count₀ wrote₀ i₀ out held count wrote i = length part - i
+μ-loop sheet r part out₀ held₀ count₀ wrote₀ i₀ out held count wrote i = length part - i
 
 loop-holds : tie.Need-loop-holds Inv-loop μ-loop
 loop-holds c =
     let s = c .before .before .before in
-    begins (s .args .sheet) (now (s .args .part)) (now (s .args .out)) (s .args .r) (search needs)
+    begins (s .args .sheet) (now (s .args .part)) (now (s .args .out)) (s .args .r) (search needs) (search needs)
 
 shared-slice-read-c : tie.Need-shared-slice-read-c Inv-loop μ-loop
 shared-slice-read-c c = omega arith
@@ -54,6 +54,9 @@ enum-told c = search needs
 same-length : tie.Need-same-length Inv-loop μ-loop
 same-length c = search needs
 
+same-length-2 : tie.Need-same-length-2 Inv-loop μ-loop
+same-length-2 c = search needs
+
 -- the answer to the line held
 abbrev line : tie.At-loop Inv-loop μ-loop → List ℕ
 line l = answerTo (l .before .before .before .before .args .sheet) (heldLine (l .loop .held) (l .loop .count))
@@ -69,11 +72,21 @@ answered c =
 
 returns : tie.Need-returns Inv-loop μ-loop
 returns c =
-    let w = c .before .before .before .before in
+    let o = c .before in
+    let w = o .before .before .before .before in
     let t = w .before .before .before in
     let l = t .before .before .before in
-    line-refused (l .loop .inv) (t .before .before .loop-test .taken) (t .if1 .taken) (c .enum-told .given .0 .0)
-    (rw (c .enum-told .given .1) at (answered w))
+    line-refused (l .loop .inv) (t .before .before .loop-test .taken) (t .if1 .taken) (o .enum-told .given .0 .0)
+    (rw (o .enum-told .given .1) at (answered w)) (c .if2 .taken)
+
+returns-2 : tie.Need-returns-2 Inv-loop μ-loop
+returns-2 c =
+    let o = c .before in
+    let w = o .before .before .before .before in
+    let t = w .before .before .before in
+    let l = t .before .before .before in
+    line-stops (l .loop .inv) (t .before .before .loop-test .taken) (t .if1 .taken) (o .enum-told .given .0 .0)
+    (rw (o .enum-told .given .1) at (answered w)) (omega (arith, c .if2 .left))
 
 add-wrote : tie.Need-add-wrote Inv-loop μ-loop
 add-wrote c =
@@ -101,6 +114,12 @@ loop-again c =
     let l = t .before .before .before in
     line-answered (l .loop .inv) (t .before .before .loop-test .taken) (t .if1 .taken) (n .n .given .0 .0) (rw (n .n .given .1) at (answered w))
 
+cast-if3 : tie.Need-cast-if3 Inv-loop μ-loop
+cast-if3 c = omega (arith, c .before .before .before .loop .inv .counted)
+
+cast-held : tie.Need-cast-held Inv-loop μ-loop
+cast-held c = omega arith
+
 array-write-held : tie.Need-array-write-held Inv-loop μ-loop
 array-write-held c = omega arith
 
@@ -117,10 +136,7 @@ loop-again-2 : tie.Need-loop-again-2 Inv-loop μ-loop
 loop-again-2 c =
     let e = c .before in
     let l = e .before .before .before in
-    byte-held (l .loop .inv) (e .before .before .loop-test .taken) (e .if1 .left) (c .if2 .taken)
-
-add-count-2 : tie.Need-add-count-2 Inv-loop μ-loop
-add-count-2 c = omega arith
+    byte-held (l .loop .inv) (e .before .before .loop-test .taken) (e .if1 .left) (c .if3 .taken)
 
 add-i-3 : tie.Need-add-i-3 Inv-loop μ-loop
 add-i-3 c = omega arith
@@ -132,13 +148,13 @@ loop-again-3 : tie.Need-loop-again-3 Inv-loop μ-loop
 loop-again-3 c =
     let e = c .before in
     let l = e .before .before .before in
-    byte-over (l .loop .inv) (e .before .before .loop-test .taken) (e .if1 .left) (c .if2 .left)
+    byte-over (l .loop .inv) (e .before .before .loop-test .taken) (e .if1 .left) (c .if3 .left)
 
-same-length-2 : tie.Need-same-length-2 Inv-loop μ-loop
-same-length-2 c = search needs
+same-length-3 : tie.Need-same-length-3 Inv-loop μ-loop
+same-length-3 c = search needs
 
-returns-2 : tie.Need-returns-2 Inv-loop μ-loop
-returns-2 c = ends (c .before .loop .inv) (c .loop-test .left)
+returns-3 : tie.Need-returns-3 Inv-loop μ-loop
+returns-3 c = ends (c .before .loop .inv) (c .loop-test .left)
 
 pub take-part-spec : {M : Type 1} → statement M
 take-part-spec =
@@ -157,18 +173,21 @@ take-part-spec =
     enum-told
     same-length
     returns
+    same-length-2
+    returns-2
     add-wrote
     add-i
     loop-less
     loop-again
+    cast-if3
+    cast-held
     array-write-held
     add-count
     add-i-2
     loop-less-2
     loop-again-2
-    add-count-2
     add-i-3
     loop-less-3
     loop-again-3
-    same-length-2
-    returns-2)
+    same-length-3
+    returns-3)
