@@ -1,6 +1,6 @@
 /*
  * Xanhupive from C: a request line completed, or the shaking of its 24 measures predicted, by the
- * Campbell-Bozorgnia 2008 equations. Link libexport.a, which `rt staticlib export` writes, and nothing
+ * Campbell-Bozorgnia 2008 equations; and a list of such lines answered in parts. Link libexport.a, which `rt staticlib export` writes, and nothing
  * beside it but the C library's memcpy and memset.
  *
  * A request line is the thirteen fields with single spaces between them, without its LF. It may be any
@@ -11,16 +11,17 @@
  * measure and every length: one possible answer, and one possible state of what was lent.
  *
  * What a caller owes, which nothing here can test:
- *   - A pointer and its length are of one block that may be read, and for `out`, `rows`, `median` and
- *     `total` written. With length 0 any pointer will do, NULL too: nothing is read or written there.
- *   - `median`, `total` and a `rows` of some length are aligned as a double is, and `median` and
- *     `total` are not NULL.
+ *   - A pointer and its length are of one block that may be read, and for `out`, `rows`, `reader`,
+ *     `median`, `total`, `took` and `wrote` written. With length 0 any pointer will do, NULL too: nothing
+ *     is read or written there.
+ *   - `median`, `total` and a `rows` of some length are aligned as a double is, `took` and `wrote` as a
+ *     uint64_t is, and none of the four single numbers is NULL.
  *   - What is lent to be written shares no byte with anything else that is lent to the same call, and
  *     no other thread touches it meanwhile.
  *   - Lent bytes and numbers hold values already, whatever they are, as after a memset.
  *
  * No function keeps anything between calls or allocates, so that any number of threads may call at
- * once.
+ * once. What a list in parts needs from call to call stands in the reader that the caller lends.
  */
 #ifndef XANHUPIVE_H
 #define XANHUPIVE_H
@@ -35,7 +36,7 @@ extern "C" {
 /* Bytes that are enough for any answer of xanhupive_complete_line, its LF counted. */
 #define XANHUPIVE_LONGEST_COMPLETION 38
 
-/* Bytes that are enough for any answer of either function, its LFs counted. */
+/* Bytes that are enough for any answer of either sheet, its LFs counted. */
 #define XANHUPIVE_LONGEST_ANSWER 912
 
 /* Measures: 0 to 20 the periods from 0.010 to 10.0 s, 21 PGA, 22 PGV, 23 PGD. */
@@ -51,6 +52,16 @@ extern "C" {
 #define XANHUPIVE_MALFORMED 14
 #define XANHUPIVE_NO_MEASURE 15
 #define XANHUPIVE_TOO_LONG 16
+
+/* Bytes of a reader. */
+#define XANHUPIVE_READER 101
+
+/* The sheets of a list in parts: the completing program's answers, and the predicting program's. */
+#define XANHUPIVE_COMPLETION 0
+#define XANHUPIVE_PREDICTION 1
+
+/* A call that is wrong in itself: no refusal, and nothing was done. */
+#define XANHUPIVE_MISUSE 255
 
 /*
  * The completing program's answer: "ok", the five figures and their letters, or "no" and the refusal's
@@ -91,6 +102,59 @@ uint32_t xanhupive_measure(const uint8_t *line, size_t line_length, uint64_t mea
  * request that is refused, else 16 where `rows_length`, counted in doubles, is below XANHUPIVE_NUMBERS.
  */
 uint32_t xanhupive_spectrum(const uint8_t *line, size_t line_length, double *rows, size_t rows_length);
+
+/*
+ * A list of request lines, each with its LF, in parts cut at any place: a part may be empty, and hold
+ * pieces of lines and whole ones. The answer lines that are written, one call after the other, are those
+ * of the list as a whole, however it was cut and whatever room was lent; the completing program's header
+ * is not among them.
+ *
+ * The reader is XANHUPIVE_READER bytes that the caller keeps, at any place and aligned as it likes. They
+ * may be copied, stored and sent, and read on another machine; another release may have other readers.
+ * Whatever stands in them, they are some reader: a reader that was overwritten answers other lines, and
+ * nothing worse comes of it.
+ *
+ *     xanhupive_reader_begin(reader, sizeof reader);
+ *     for each part: while some of it is left:
+ *         xanhupive_take_part(reader, sizeof reader, XANHUPIVE_COMPLETION, part, part_length, out, sizeof out, &took, &wrote);
+ *         write `wrote` bytes of `out` out, and go on `took` bytes further in the part
+ *     xanhupive_close(reader, sizeof reader, out, sizeof out, &wrote);
+ *
+ * A call that does not return 0 leaves all that was lent as it was. On 16 the caller offers the same
+ * bytes again with more room. With room for the sheet's longest answer no call gives 16, and each takes
+ * a byte at least of a part that has one: so the loop above ends.
+ */
+
+/*
+ * Makes a reader before the first byte of a list.
+ *
+ * Returns 0, or XANHUPIVE_MISUSE where `reader_length` is below XANHUPIVE_READER.
+ */
+uint32_t xanhupive_reader_begin(uint8_t *reader, size_t reader_length);
+
+/*
+ * Takes a part of a list, and writes the answers to the lines that end in it, as many as fit.
+ *
+ * Returns 0, with how many bytes of the part were taken in `*took`, and how many bytes of `out` were
+ * written from its start in `*wrote`. All of the part is taken, or the bytes before the LF of the first
+ * line whose answer does not fit behind those written. A part without an LF is always taken whole.
+ * Or returns 16, exactly where nothing was written and the answer at the first LF is longer than
+ * `out_length`; no byte is taken then, and the reader, `out` and both numbers are as they were.
+ * Or returns XANHUPIVE_MISUSE, where `reader_length` is below XANHUPIVE_READER or `sheet` is no sheet's
+ * number. One list may change its sheet from call to call.
+ */
+uint32_t xanhupive_take_part(uint8_t *reader, size_t reader_length, uint64_t sheet, const uint8_t *part, size_t part_length, uint8_t *out, size_t out_length, uint64_t *took, uint64_t *wrote);
+
+/*
+ * Ends a list: a last line without its LF is answered with "no 14", however long it is.
+ *
+ * Returns 0, with how many bytes of `out` were written in `*wrote`, 6 or none; the reader is as
+ * xanhupive_reader_begin makes one, ready for another list.
+ * Or returns 16, exactly where that answer is longer than `out_length`; the reader, `out` and `*wrote`
+ * are as they were.
+ * Or returns XANHUPIVE_MISUSE where `reader_length` is below XANHUPIVE_READER.
+ */
+uint32_t xanhupive_close(uint8_t *reader, size_t reader_length, uint8_t *out, size_t out_length, uint64_t *wrote);
 
 #ifdef __cplusplus
 }

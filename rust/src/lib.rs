@@ -1,8 +1,13 @@
 //! A request line completed, or the shaking of its 24 measures predicted, by the Campbell-Bozorgnia 2008
-//! equations. A line is any bytes, without the LF; what is not a request is refused with number 14.
+//! equations. A line is any bytes, without the LF; what is not a request is refused with number 14. A list
+//! of lines is answered in parts by [`Reader`], and by [`Answers`] for what writes to [`std::io::Write`].
 //!
 //! Each function here calls one proved function of `libexport.a`; `c/xanhupive.h` says what is promised
 //! of each. The slices and references of Rust keep all that it asks of a caller.
+
+mod parts;
+
+pub use parts::{Answers, Reader, Sheet, READER};
 
 /// Bytes that are enough for any answer of [`complete_line`].
 pub const LONGEST_COMPLETION: usize = 38;

@@ -3,9 +3,9 @@
 use super::*;
 
 /// Document 01's listing: a request that is accepted, one with refusal 2, one with refusal 10.
-const GOOD: &[u8] = b"650 0 760 - 10000 - 3000 4000 30 - - - 2000";
-const TOO_LARGE: &[u8] = b"851 0 760 - 10000 - 3000 4000 30 - - - 2000";
-const ABOVE: &[u8] = b"650 90 300 40 10000 - 3000 0 90 - - - 2000";
+pub(crate) const GOOD: &[u8] = b"650 0 760 - 10000 - 3000 4000 30 - - - 2000";
+pub(crate) const TOO_LARGE: &[u8] = b"851 0 760 - 10000 - 3000 4000 30 - - - 2000";
+pub(crate) const ABOVE: &[u8] = b"650 90 300 40 10000 - 3000 0 90 - - - 2000";
 
 /// Lines that cannot be read.
 const MALFORMED: [&[u8]; 6] = [
@@ -18,11 +18,11 @@ const MALFORMED: [&[u8]; 6] = [
 ];
 
 const PGA: u64 = 21;
-const MARK: u8 = 0xa5;
+pub(crate) const MARK: u8 = 0xa5;
 
-type Answer = for<'a> fn(&[u8], &'a mut [u8]) -> Option<&'a [u8]>;
+pub(crate) type Answer = for<'a> fn(&[u8], &'a mut [u8]) -> Option<&'a [u8]>;
 
-fn answered(answer: Answer, line: &[u8]) -> Vec<u8> {
+pub(crate) fn answered(answer: Answer, line: &[u8]) -> Vec<u8> {
     answer(line, &mut [MARK; LONGEST_ANSWER])
         .expect("the longest answer fits")
         .to_vec()

@@ -4,3 +4,4 @@ pub mod MeasureLaws
 pub mod SpectrumLaws
 pub mod OneAnswer
 pub mod TellLaws
+pub mod ServedWhole

@@ -20,11 +20,11 @@ use Rattle.export.specs.Parts.{misuse, Loan, loan, told, beginTold, part
 
 -- ---- a reader's answer
 -- a refusal that left the bytes for answers as they were
-told-refused : (l : Loan) (t : Taken) (out : List ℕ) → (t .refusal ≡ 0 → ⊥) → told l t out ≡ (t .refusal, l)
+pub told-refused : (l : Loan) (t : Taken) (out : List ℕ) → (t .refusal ≡ 0 → ⊥) → told l t out ≡ (t .refusal, l)
 unfolding told
 told-refused l t out h = rw (ne-eqb (t .refusal) 0 h)
 
-told-taken : (l : Loan) (t : Taken) (out : List ℕ) → t .refusal ≡ 0 → told l t out ≡ (0, loan (put (l .reader) 0 (readerBytes (t .reader))) out (t .took) (t .wrote))
+pub told-taken : (l : Loan) (t : Taken) (out : List ℕ) → t .refusal ≡ 0 → told l t out ≡ (0, loan (put (l .reader) 0 (readerBytes (t .reader))) out (t .took) (t .wrote))
 unfolding told
 told-taken l t out h = rw (eq-eqb (t .refusal) 0 h)
 

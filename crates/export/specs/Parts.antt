@@ -63,3 +63,18 @@ unfolding told after readerIn closeAnswer
 closeTold l =
     let r = readerIn (l .reader) in
     cond (ltb (length (l .reader)) readerSize) (misuse, l) (told l (closeAnswer (length (l .out)) r) (after (l .out) (closing r)))
+
+-- ---- a list
+-- what the calls write for a list offered in parts to a reader in lent bytes, whatever else is lent to each: what a call took is passed,
+-- and what it wrote is the start of the bytes for answers; after a refusal the same is offered again
+pub data Served (sheet : Sheet) : List ℕ → List ℕ → List ℕ → Type 0 where
+  taken :
+      (l l₁ : Loan) (part s text : List ℕ) → partTold (A.Sheet sheet) part l ≡ (0, l₁)
+      → Served sheet (l₁ .reader) (drop (l₁ .took) part ++ s) text
+      → Served sheet (l .reader) (part ++ s) (take (l₁ .wrote) (l₁ .out) ++ text)
+  refused :
+      (l l₁ : Loan) (part s text : List ℕ) → partTold (A.Sheet sheet) part l ≡ (No.tooLong, l₁)
+      → Served sheet (l₁ .reader) s text → Served sheet (l .reader) s text
+  closed : (l l₁ : Loan) → closeTold l ≡ (0, l₁) → Served sheet (l .reader) [] (take (l₁ .wrote) (l₁ .out))
+  unclosed :
+      (l l₁ : Loan) (text : List ℕ) → closeTold l ≡ (No.tooLong, l₁) → Served sheet (l₁ .reader) [] text → Served sheet (l .reader) [] text

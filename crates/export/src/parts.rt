@@ -38,11 +38,11 @@ fn sheet_numbered(n: u64) -> Asked
 pub extern "C" fn xanhupive_reader_begin(reader: &mut [u8]) -> u32
     ensures { λ n. ⌜ (n, now (reader .exit)) ≡ beginTold (now (reader .entry)) ⌝ }
 {
-    if reader.len() < READER {
-        return MISUSE;
+    if READER <= reader.len() {
+        put_reader(reader, new_reader());
+        return 0;
     }
-    put_reader(reader, new_reader());
-    0
+    MISUSE
 }
 
 // A part of a list: 0, with how many of its bytes were taken and how many written; or TOO_LONG.
@@ -84,9 +84,9 @@ pub extern "C" fn xanhupive_close(reader: &mut [u8], out: &mut [u8], wrote: &mut
         return MISUSE;
     }
     let closed = close_list(reader_in(reader), out);
-    let refusal = closed.refusal;
-    if refusal != 0 {
-        return refusal;
+    let number = closed.refusal;
+    if number != 0 {
+        return number;
     }
     let next = closed.reader;
     put_reader(reader, next);

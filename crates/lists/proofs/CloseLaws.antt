@@ -57,6 +57,13 @@ module _ (room : ℕ) (r : Reader) where
       go e true f = ltb-true room (length (closing r)) f
       go e false f = absurd (omega (arith, e, ap (λ (t : Taken). t .refusal) (close-fits (ltb-false room (length (closing r)) f))))
 
+  pub close-fitted : closeAnswer room r .refusal ≡ 0 → length (closing r) ≤ room
+  close-fitted e = go (ltb room (length (closing r))) refl
+    where
+      go : (t : Bool) → ltb room (length (closing r)) ≡ t → length (closing r) ≤ room
+      go true f = absurd (omega (arith, e, ap (λ (t : Taken). t .refusal) (close-full (ltb-true room (length (closing r)) f))))
+      go false f = ltb-false room (length (closing r)) f
+
 -- one that is not refused leaves a new reader
 pub closed-new : {r : Reader} {b : List ℕ} {t : Taken} {b₁ : List ℕ} → Closed r b t b₁ → t .refusal ≡ 0 → t .reader ≡ newReader
 closed-new {r} {b} {t} p e = go (ltb (length b) (length (closing r))) refl

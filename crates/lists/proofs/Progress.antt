@@ -60,11 +60,15 @@ module _ (sheet : Sheet) (room : ℕ) (r : Reader) (part : List ℕ) where
       (λ h. omega (arith, ap (λ (t : Taken). t .took) (answer-fits sheet room r part h)))
       (λ h. omega (arith, ap (λ (t : Taken). t .took) (answer-full sheet room r part h)))
 
+  -- what is counted as written is the text
+  pub wrote-is : partAnswer sheet room r part .wrote ≡ length (standIn sheet room r part .text)
+  wrote-is =
+      fits-or-full (partAnswer sheet room r part .wrote ≡ length (standIn sheet room r part .text))
+      (λ h. ap (λ (t : Taken). t .wrote) (answer-fits sheet room r part h))
+      (λ h. ap (λ (t : Taken). t .wrote) (answer-full sheet room r part h) ∙ sym (ap length (first-full sheet room r part h .0)))
+
   pub wrote-within : partAnswer sheet room r part .wrote ≤ room
-  wrote-within =
-      fits-or-full (partAnswer sheet room r part .wrote ≤ room)
-      (λ h. omega (arith, ap (λ (t : Taken). t .wrote) (answer-fits sheet room r part h), text-fits sheet room r [] part (omega arith)))
-      (λ h. omega (arith, ap (λ (t : Taken). t .wrote) (answer-full sheet room r part h)))
+  wrote-within = omega (arith, wrote-is, text-fits sheet room r [] part (omega arith))
 
 -- no first answer is longer than the longest
 first-short : (sheet : Sheet) (r : Reader) (part : List ℕ) → length (firstAnswer sheet r part) ≤ longestAnswer sheet
@@ -98,11 +102,8 @@ module _ {sheet : Sheet} {r : Reader} {part b : List ℕ} {t : Taken} {b₁ : Li
       let h = sixteen-exactly sheet (length b) r part .0 (ap (λ (u : Taken). u .refusal) (sym (p .answer)) ∙ e) in
       (p .answer ∙ answer-full sheet (length b) r part h, p .bytes ∙ ap (put b 0) (first-full sheet (length b) r part h .0) ∙ sym (put-nothing b 0))
 
-  -- what is counted as written is the text
   pub wrote-text : t .wrote ≡ length (standIn sheet (length b) r part .text)
-  wrote-text = ap (λ (u : Taken). u .wrote) (p .answer) ∙ fits-or-full sheet (length b) r part (partAnswer sheet (length b) r part .wrote ≡ length (standIn sheet (length b) r part .text))
-      (λ h. ap (λ (u : Taken). u .wrote) (answer-fits sheet (length b) r part h))
-      (λ h. ap (λ (u : Taken). u .wrote) (answer-full sheet (length b) r part h) ∙ sym (ap length (first-full sheet (length b) r part h .0)))
+  wrote-text = ap (λ (u : Taken). u .wrote) (p .answer) ∙ wrote-is sheet (length b) r part
 
   pub wrote-fits : t .wrote ≤ length b
   wrote-fits = omega (arith, ap (λ (u : Taken). u .wrote) (p .answer), wrote-within sheet (length b) r part)

@@ -18,10 +18,11 @@ use Rattle.answer.specs.Sheets.{answerTo}
 use Rattle.lists.specs.declared.Reader.{Reader}
 use Rattle.lists.specs.declared.Taken.{Taken}
 use Rattle.lists.specs.Whole.{answersFrom, answersTo}
-use Rattle.lists.specs.Parts.{lineIn, newReader, fresh, grown, closing, Stand, readFrom, standIn, firstAnswer, partAnswer, notTaken, Answered, closed, unclosed, offered}
+use Rattle.lists.specs.Parts.{lineIn, newReader, fresh, grown, closing, Stand, readFrom, standIn, partAnswer, notTaken, Answered, closed, unclosed, offered}
 use Rattle.lists.proofs.HeldLaws.{held-over, held-whole, over-answer}
 use Rattle.lists.proofs.StandLaws.{first-full, answer-full, answer-fits, not-taken-full, not-taken-fits}
 use Rattle.lists.proofs.PartLaws.{grown-held, grown-over}
+use Rattle.lists.proofs.Progress.{fits-or-full}
 use Rattle.lists.proofs.CloseLaws.{close-full, close-sixteen}
 
 -- ---- lines too long are all alike
@@ -82,7 +83,7 @@ module _ (r : Reader) (full : length (r .held) ≡ longest) (c : ℕ) where
 abbrev pub owed : Sheet → Stand → List ℕ → List ℕ
 owed sheet p s = p .text ++ answersFrom sheet (lineIn (p .reader)) (p .left ++ s)
 
-no-line : (r : Reader) → lineIn (fresh r) ≡ []
+pub no-line : (r : Reader) → lineIn (fresh r) ≡ []
 no-line r = held-whole (r .held) 0 (omega arith)
 
 module _ (sheet : Sheet) (room : ℕ) (s : List ℕ) where
@@ -137,51 +138,48 @@ module _ (sheet : Sheet) (room : ℕ) (s : List ℕ) where
       go false b f g = g
 
 -- ---- a whole list
--- what is owed for a part that is refused is owed still
-module _ (sheet : Sheet) (room : ℕ) (r : Reader) (full : length (r .held) ≡ longest) (part s text : List ℕ) where
-  abbrev next : Reader
-  next = partAnswer sheet room r part .reader
+-- the array keeps its length from call to call
+pub next-full : (sheet : Sheet) (room : ℕ) (r : Reader) (part : List ℕ) → length (r .held) ≡ longest → length (partAnswer sheet room r part .reader .held) ≡ longest
+next-full sheet room r part full =
+    fits-or-full sheet room r part (length (partAnswer sheet room r part .reader .held) ≡ longest)
+    (λ h. ap (λ (t : Taken). length (t .reader .held)) (answer-fits sheet room r part h) ∙ part-full sheet room [] r [] part full)
+    (λ h. ap (λ (t : Taken). length (t .reader .held)) (answer-full sheet room r part h) ∙ full)
 
+-- what a call wrote and what is owed after it is what was owed before; of a call that is refused all is owed still
+module _ (sheet : Sheet) (room : ℕ) (r : Reader) (full : length (r .held) ≡ longest) (part s text : List ℕ) where
   abbrev rest : List ℕ
   rest = notTaken sheet room r part ++ s
 
-  next-full : length (next .held) ≡ longest
-  next-full = go (ltb room (length (firstAnswer sheet r part))) refl
-    where
-      go : (t : Bool) → ltb room (length (firstAnswer sheet r part)) ≡ t → length (next .held) ≡ longest
-      go true e =
-          ap (λ (t : Taken). length (t .reader .held)) (answer-full sheet room r part (ltb-true room (length (firstAnswer sheet r part)) e)) ∙ full
-      go false e =
-          ap (λ (t : Taken). length (t .reader .held)) (answer-fits sheet room r part (ltb-false room (length (firstAnswer sheet r part)) e))
-          ∙ part-full sheet room s r [] part full
+  pub one-call :
+      text ≡ answersFrom sheet (lineIn (partAnswer sheet room r part .reader)) rest
+      → standIn sheet room r part .text ++ text ≡ answersFrom sheet (lineIn r) (part ++ s)
+  one-call e =
+      fits-or-full sheet room r part (standIn sheet room r part .text ++ text ≡ answersFrom sheet (lineIn r) (part ++ s))
+      (λ h.
+      ap (λ (l : List ℕ). standIn sheet room r part .text ++ l)
+      (e
+      ∙ ap (λ (t : Taken). answersFrom sheet (lineIn (t .reader)) rest) (answer-fits sheet room r part h)
+      ∙ ap (λ (l : List ℕ). answersFrom sheet (lineIn (standIn sheet room r part .reader)) (l ++ s)) (not-taken-fits sheet room r part h))
+      ∙ sym (part-is sheet room s r [] part full))
+      (λ h.
+      ap (λ (l : List ℕ). l ++ text) (first-full sheet room r part h .0)
+      ∙ e
+      ∙ ap (λ (t : Taken). answersFrom sheet (lineIn (t .reader)) rest) (answer-full sheet room r part h)
+      ∙ ap (λ (l : List ℕ). answersFrom sheet (lineIn r) (l ++ s)) (not-taken-full sheet room r part h))
 
-  one-call : text ≡ answersFrom sheet (lineIn next) rest → standIn sheet room r part .text ++ text ≡ answersFrom sheet (lineIn r) (part ++ s)
-  one-call e = go (ltb room (length (firstAnswer sheet r part))) refl
-    where
-      go : (t : Bool) → ltb room (length (firstAnswer sheet r part)) ≡ t → standIn sheet room r part .text ++ text ≡ answersFrom sheet (lineIn r) (part ++ s)
-      go true f =
-          let h = ltb-true room (length (firstAnswer sheet r part)) f in
-          ap (λ (l : List ℕ). l ++ text) (first-full sheet room r part h .0)
-          ∙ e
-          ∙ ap (λ (t : Taken). answersFrom sheet (lineIn (t .reader)) rest) (answer-full sheet room r part h)
-          ∙ ap (λ (l : List ℕ). answersFrom sheet (lineIn r) (l ++ s)) (not-taken-full sheet room r part h)
-      go false f =
-          let h = ltb-false room (length (firstAnswer sheet r part)) f in
-          ap (λ (l : List ℕ). standIn sheet room r part .text ++ l)
-          (e
-          ∙ ap (λ (t : Taken). answersFrom sheet (lineIn (t .reader)) rest) (answer-fits sheet room r part h)
-          ∙ ap (λ (l : List ℕ). answersFrom sheet (lineIn (standIn sheet room r part .reader)) (l ++ s)) (not-taken-fits sheet room r part h))
-          ∙ sym (part-is sheet room s r [] part full)
+-- at the end
+pub closing-is : (sheet : Sheet) (r : Reader) → closing r ≡ answersFrom sheet (lineIn r) []
+unfolding closing answersFrom
+closing-is sheet r = refl
 
 -- from any reader on: what its line and the list after it get
 pub answered-from : {sheet : Sheet} {r : Reader} {s text : List ℕ} → length (r .held) ≡ longest → Answered sheet r s text → text ≡ answersFrom sheet (lineIn r) s
-unfolding closing answersFrom
-answered-from {sheet} h (closed room r e) = refl
+answered-from {sheet} h (closed room r e) = closing-is sheet r
 answered-from {sheet} h (unclosed room r text e a) =
     let same = ap (λ (t : Taken). t .reader) (close-full room r (close-sixteen room r .0 e)) in
     answered-from (ap (λ (q : Reader). length (q .held)) same ∙ h) a ∙ ap (λ (q : Reader). answersFrom sheet (lineIn q) []) same
 answered-from {sheet} h (offered room r part s text a) =
-    one-call sheet room r h part s text (answered-from (next-full sheet room r h part s text) a)
+    one-call sheet room r h part s text (answered-from (next-full sheet room r part h) a)
 
 -- joined they are the answers to the list, however it was cut, whatever room was lent, and whenever a call was refused
 pub answered-whole : {sheet : Sheet} {s text : List ℕ} → Answered sheet newReader s text → text ≡ answersTo sheet s

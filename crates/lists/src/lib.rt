@@ -70,6 +70,10 @@ pub fn take_part(sheet: Sheet, r: Reader, part: &[u8], out: &mut [u8]) -> Taken
         let c = part[i];
         if c == b'\n' {
             let Wrote::To(n) = answer_held(sheet, &held, count, &mut out[wrote..]) else {
+                let stopped = Reader {
+                    held: held,
+                    count: count,
+                };
                 if wrote == 0 {
                     return Taken {
                         refusal: TOO_LONG,
@@ -78,20 +82,17 @@ pub fn take_part(sheet: Sheet, r: Reader, part: &[u8], out: &mut [u8]) -> Taken
                         wrote: 0,
                     };
                 }
-                let reader = Reader {
-                    held: held,
-                    count: count,
-                };
                 return Taken {
                     refusal: 0,
-                    reader: reader,
+                    reader: stopped,
                     took: i,
                     wrote: wrote,
                 };
             };
             wrote += n;
             count = 0;
-            i += 1;
+            let start = i + 1;
+            i = start;
         } else if (count as usize) < LONGEST {
             held[count as usize] = c;
             count += 1;
@@ -132,10 +133,10 @@ pub fn close_list(r: Reader, out: &mut [u8]) -> Taken
 {
     match answer_end(r, out) {
         Wrote::To(n) => {
-            let reader = new_reader();
+            let next = new_reader();
             Taken {
                 refusal: 0,
-                reader: reader,
+                reader: next,
                 took: 0,
                 wrote: n,
             }

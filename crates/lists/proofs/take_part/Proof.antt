@@ -100,8 +100,8 @@ add-wrote c =
       l .before .before .before .before .good .1 .1 .1 .0,
     )
 
-add-i : tie.Need-add-i Inv-loop μ-loop
-add-i c = omega arith
+add-start : tie.Need-add-start Inv-loop μ-loop
+add-start c = omega arith
 
 loop-less : tie.Need-loop-less Inv-loop μ-loop
 loop-less c = omega arith
@@ -126,8 +126,8 @@ array-write-held c = omega arith
 add-count : tie.Need-add-count Inv-loop μ-loop
 add-count c = omega arith
 
-add-i-2 : tie.Need-add-i-2 Inv-loop μ-loop
-add-i-2 c = omega arith
+add-i : tie.Need-add-i Inv-loop μ-loop
+add-i c = omega arith
 
 loop-less-2 : tie.Need-loop-less-2 Inv-loop μ-loop
 loop-less-2 c = omega arith
@@ -138,8 +138,8 @@ loop-again-2 c =
     let l = e .before .before .before in
     byte-held (l .loop .inv) (e .before .before .loop-test .taken) (e .if1 .left) (c .if3 .taken)
 
-add-i-3 : tie.Need-add-i-3 Inv-loop μ-loop
-add-i-3 c = omega arith
+add-i-2 : tie.Need-add-i-2 Inv-loop μ-loop
+add-i-2 c = omega arith
 
 loop-less-3 : tie.Need-loop-less-3 Inv-loop μ-loop
 loop-less-3 c = omega arith
@@ -176,17 +176,17 @@ take-part-spec =
     same-length-2
     returns-2
     add-wrote
-    add-i
+    add-start
     loop-less
     loop-again
     cast-if3
     cast-held
     array-write-held
     add-count
-    add-i-2
+    add-i
     loop-less-2
     loop-again-2
-    add-i-3
+    add-i-2
     loop-less-3
     loop-again-3
     same-length-3

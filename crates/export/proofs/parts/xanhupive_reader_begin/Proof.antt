@@ -1,12 +1,9 @@
--- Too few bytes are left as they were; else a new reader's stand first. Assumes nothing.
+-- A new reader's bytes stand first; too few are left as they were. Assumes nothing.
 use borrow.Author.Needs.{needs}
 use denote.Ref.{now}
 use Rattle.export.proofs.TellLaws.{begin-misuse, begin-good}
 use Rattle.export.proofs.parts.xanhupive_reader_begin.Statement.{statement}
 use Rattle.export.proofs.parts.xanhupive_reader_begin.Tie as tie
-
-returns : tie.Need-returns
-returns c = begin-misuse (now (c .before .before .args .reader)) (c .if1 .taken)
 
 new-reader-requires : tie.Need-new-reader-requires
 new-reader-requires c κs = search needs
@@ -17,12 +14,15 @@ put-reader-requires c κs = search needs
 same-length : tie.Need-same-length
 same-length c = search needs
 
-returns-2 : tie.Need-returns-2
-returns-2 c =
+returns : tie.Need-returns
+returns c =
     let p = c .before .before in
     let n = p .before in
-    begin-good (n .before .before .if1 .left) (n .new-reader .ensures) (p .put-reader .ensures)
+    begin-good (n .before .before .if1 .taken) (n .new-reader .ensures) (p .put-reader .ensures)
+
+returns-2 : tie.Need-returns-2
+returns-2 c = begin-misuse (now (c .before .before .args .reader)) (c .if1 .left)
 
 pub xanhupive-reader-begin-spec : {M : Type 1} → statement M
 xanhupive-reader-begin-spec =
-    tie.close (tie.spec returns new-reader-requires put-reader-requires same-length returns-2)
+    tie.close (tie.spec new-reader-requires put-reader-requires same-length returns returns-2)
