@@ -1,47 +1,11 @@
 /* Calls at the edges of what xanhupive.h promises: NULL with length 0, every length that is too short,
  * numbers and bytes around the lent part, the order of the refusals. Whatever is lent ends at a page
  * that may not be touched, so that a byte read or written past it ends the run. */
-#define _DEFAULT_SOURCE
-#include <stdint.h>
-#include <stdio.h>
+#include "checks.h"
+
 #include <string.h>
-#include <sys/mman.h>
-#include <unistd.h>
 
 #include "xanhupive.h"
-
-static unsigned passed;
-static unsigned failed;
-
-static void expect(int holds, const char *what)
-{
-    if (holds) {
-        passed++;
-    } else {
-        failed++;
-        printf("FAILED: %s\n", what);
-    }
-}
-
-/* The end of a readable page, behind which nothing may be touched. */
-static uint8_t *page_end(void)
-{
-    size_t page = (size_t)sysconf(_SC_PAGESIZE);
-    uint8_t *at = mmap(NULL, 2 * page, PROT_READ | PROT_WRITE, MAP_PRIVATE | MAP_ANONYMOUS, -1, 0);
-    if (at == MAP_FAILED || mprotect(at + page, page, PROT_NONE) != 0) {
-        perror("mmap");
-        _exit(1);
-    }
-    return at + page;
-}
-
-static int all_are(const uint8_t *from, const uint8_t *to, uint8_t value)
-{
-    while (from < to && *from == value) {
-        from++;
-    }
-    return from == to;
-}
 
 static const uint8_t *line;
 static size_t length;
@@ -160,6 +124,5 @@ int main(void)
     every_length(xanhupive_predict_line, "no 14\n", 6, out_end);
     one_measure(line_end);
     spectrum(line_end, out_end);
-    printf("edges: %u passed, %u failed\n", passed, failed);
-    return failed != 0;
+    return counted("edges");
 }

@@ -6,13 +6,10 @@
  *
  * The sheet is 0, the completing one, where none is given. Whatever is lent ends at a page that may not be
  * touched, so that a byte read or written past it ends the run. */
-#define _DEFAULT_SOURCE
-#include <stdint.h>
-#include <stdio.h>
+#include "checks.h"
+
 #include <stdlib.h>
 #include <string.h>
-#include <sys/mman.h>
-#include <unistd.h>
 
 #include "xanhupive.h"
 
@@ -32,42 +29,15 @@ static const char listing[] = "650 0 760 - 10000 - 3000 4000 30 - - - 2000\n"
                               "851 0 760 - 10000 - 3000 4000 30 - - - 2000\n"
                               "650 90 300 40 10000 - 3000 0 90 - - - 2000\n";
 static const char completed[] = "ok 90 10000 3000 5000 2000 eggeg\nno 2\nno 10\n";
+static const size_t listing_length = sizeof listing - 1;
+static const size_t completed_length = sizeof completed - 1;
+
+/* A request whose completion is the longest, and that. */
+static const char long_request[] = "650 0 760 - 100000 - 15000 199000 30 200000 - - 10000\n";
+static const char longest[] = "ok 90 100000 15000 200000 10000 egggg\n";
 
 static const char malformed[] = "no 14\n";
 static const size_t malformed_length = sizeof malformed - 1;
-
-static unsigned long passed;
-static unsigned long failed;
-
-static void expect(int holds, const char *what)
-{
-    if (holds) {
-        passed++;
-    } else {
-        failed++;
-        printf("FAILED: %s\n", what);
-    }
-}
-
-/* The end of a readable page, behind which nothing may be touched. */
-static uint8_t *page_end(void)
-{
-    size_t page = (size_t)sysconf(_SC_PAGESIZE);
-    uint8_t *at = mmap(NULL, 2 * page, PROT_READ | PROT_WRITE, MAP_PRIVATE | MAP_ANONYMOUS, -1, 0);
-    if (at == MAP_FAILED || mprotect(at + page, page, PROT_NONE) != 0) {
-        perror("mmap");
-        _exit(1);
-    }
-    return at + page;
-}
-
-static int all_are(const uint8_t *from, const uint8_t *to, uint8_t value)
-{
-    while (from < to && *from == value) {
-        from++;
-    }
-    return from == to;
-}
 
 static uint64_t state;
 
@@ -131,10 +101,16 @@ static const char *fault_of_taken(const struct offer *offer, const struct told *
     if (told->took == 0 && length > 0) {
         return "nothing was taken, and no 16";
     }
+    if (told->took < length && told->wrote == 0) {
+        return "it stopped with nothing written, and no 16";
+    }
     if (told->took < length && offer->list[offer->from + told->took] != '\n') {
         return "it stopped before a byte that is no LF";
     }
-    return all_are(told->out + told->wrote, out_end, MARK) ? NULL : "the bytes behind the answers are not as they were";
+    if (!all_are(told->out + told->wrote, out_end, MARK)) {
+        return "the bytes behind the answers are not as they were";
+    }
+    return NULL;
 }
 
 /* What is wrong with a call that was refused. */
@@ -146,7 +122,27 @@ static const char *fault_of_refused(const struct told *told, const uint8_t *befo
     if (!all_are(told->out, out_end, MARK)) {
         return "the room of a refused call is not as it was";
     }
-    return told->took == MARKED && told->wrote == MARKED ? NULL : "the numbers of a refused call are not as they were";
+    if (told->took != MARKED || told->wrote != MARKED) {
+        return "the numbers of a refused call are not as they were";
+    }
+    return NULL;
+}
+
+/* Takes a part, whatever the reader; both numbers hold marks before. */
+static void take(struct told *told, uint64_t sheet, const uint8_t *part, size_t length, uint8_t *out, size_t room)
+{
+    told->took = MARKED;
+    told->wrote = MARKED;
+    told->answer = xanhupive_take_part(
+        reader, XANHUPIVE_READER, sheet, part, length, out, room, &told->took, &told->wrote);
+}
+
+/* Closes, whatever the reader; a close that is not refused has taken nothing. */
+static void close_list(struct told *told, uint8_t *out, size_t room)
+{
+    told->wrote = MARKED;
+    told->answer = xanhupive_close(reader, XANHUPIVE_READER, out, room, &told->wrote);
+    told->took = told->answer == 0 ? 0 : MARKED;
 }
 
 /* One call with so much room, each thing lent at the end of its page, held to what is promised of every
@@ -155,16 +151,16 @@ static struct told call(const struct offer *offer, size_t room)
 {
     uint8_t before[XANHUPIVE_READER];
     size_t length = offer->to - offer->from;
-    const uint8_t *part = part_end - length;
-    struct told told = {0, MARKED, MARKED, room, out_end - room, NULL};
+    uint8_t *part = part_end - length;
+    uint8_t *out = out_end - room;
+    struct told told = {0, 0, 0, room, out, NULL};
     memcpy(before, reader, sizeof before);
-    memcpy(part_end - length, offer->list + offer->from, length);
-    memset(out_end - room - AROUND, MARK, room + AROUND);
+    memcpy(part, offer->list + offer->from, length);
+    memset(out - AROUND, MARK, AROUND + room);
     if (offer->closes) {
-        told.answer = xanhupive_close(reader, XANHUPIVE_READER, out_end - room, room, &told.wrote);
-        told.took = told.answer == 0 ? 0 : MARKED;
+        close_list(&told, out, room);
     } else {
-        told.answer = xanhupive_take_part(reader, XANHUPIVE_READER, offer->sheet, part, length, out_end - room, room, &told.took, &told.wrote);
+        take(&told, offer->sheet, part, length, out, room);
     }
     if (told.answer != 0 && told.answer != XANHUPIVE_TOO_LONG) {
         told.fault = "neither 0 nor 16";
@@ -291,42 +287,53 @@ static int answer_list(uint64_t sheet)
 
 /* ---- the edges ---- */
 
+/* What the calls wrote, and what they should. */
 static uint8_t written[LISTED];
 static size_t written_length;
+static uint8_t wanted[LISTED];
+static size_t wanted_length;
 
 /* Keeps what a call wrote; gives how much it took. */
 static size_t kept(const struct told *told)
 {
     expect(told->fault == NULL, told->fault);
-    if (told->fault != NULL || told->wrote > sizeof written - written_length) {
+    if (told->fault != NULL) {
         return 0;
+    }
+    if (told->wrote > sizeof written - written_length) {
+        expect(0, "no more than the answers to the whole");
+        return told->took;
     }
     memcpy(written + written_length, told->out, told->wrote);
     written_length += told->wrote;
     return told->took;
 }
 
-/* The answers to a list that is known whole; gives their length. */
-static size_t whole(uint64_t sheet, const uint8_t *list, size_t length, uint8_t *out)
+static void want(const char *text, size_t length)
+{
+    memcpy(wanted + wanted_length, text, length);
+    wanted_length += length;
+}
+
+/* Wants the answers to a list, line by line. */
+static void want_whole(const struct offer *list)
 {
     size_t start = 0;
-    size_t count = 0;
-    for (size_t at = 0; at < length; at++) {
-        if (list[at] == '\n') {
-            count += answer_to(sheet, list + start, at - start, out + count);
+    wanted_length = 0;
+    for (size_t at = 0; at < list->to; at++) {
+        if (list->list[at] == '\n') {
+            wanted_length += answer_to(list->sheet, list->list + start, at - start, wanted + wanted_length);
             start = at + 1;
         }
     }
-    if (start < length) {
-        memcpy(out + count, malformed, malformed_length);
-        count += malformed_length;
+    if (start < list->to) {
+        want(malformed, malformed_length);
     }
-    return count;
 }
 
 /* Offers a list, its first part of one size and the others of another, with so much room and after a 16 with
- * a byte more, then with the most, and holds what was written to the answers expected. */
-static void in_parts(const struct offer *list, size_t first, size_t others, size_t lent, const uint8_t *answers, size_t answers_length)
+ * a byte more, then with the most, and holds what was written to what is wanted. */
+static void in_parts(const struct offer *list, size_t first, size_t others, size_t lent)
 {
     const size_t rooms[] = {lent, lent + 1, XANHUPIVE_LONGEST_ANSWER};
     struct told told;
@@ -344,36 +351,36 @@ static void in_parts(const struct offer *list, size_t first, size_t others, size
     part.closes = 1;
     told = offered(&part, rooms, 3);
     kept(&told);
-    expect(written_length == answers_length && memcmp(written, answers, answers_length) == 0, "the answers are those of the whole");
+    expect(written_length == wanted_length, "as many bytes of answers as to the whole");
+    expect(memcmp(written, wanted, wanted_length) == 0, "the answers are those to the whole");
     expect(reader_is_new(), "the close leaves a new reader");
 }
 
 /* Cuts a list in two at every place. */
 static void every_cut(const struct offer *list, size_t lent)
 {
-    static uint8_t answers[LISTED];
-    size_t length = whole(list->sheet, list->list, list->to, answers);
+    want_whole(list);
     for (size_t cut = 0; cut <= list->to; cut++) {
-        in_parts(list, cut, list->to, lent, answers, length);
+        in_parts(list, cut, list->to, lent);
     }
 }
 
-static void the_listing(void)
+/* A list and what the completing sheet says to it, in every cut; its last line with and without the LF, by both
+ * sheets and in every room that tells a difference. */
+static void known_list(const char *list, size_t length, const char *answers, size_t answers_length)
 {
-    const uint8_t *list = (const uint8_t *)listing;
-    const size_t length = sizeof listing - 1;
-    static uint8_t answers[LISTED];
-    size_t answers_length = whole(XANHUPIVE_COMPLETION, list, length, answers);
-    expect(answers_length == sizeof completed - 1 && memcmp(answers, completed, answers_length) == 0, "document 01's answers");
-    for (uint64_t sheet = 0; sheet < 2; sheet++) {
-        for (size_t shorter = 0; shorter < 2; shorter++) {
-            struct offer offer = {sheet, list, 0, length - shorter, 0};
-            for (size_t lent = 0; lent <= 40; lent++) {
-                every_cut(&offer, lent);
-            }
-            for (size_t lent = 700; lent <= XANHUPIVE_LONGEST_ANSWER; lent += 53) {
-                every_cut(&offer, lent);
-            }
+    struct offer offer = {XANHUPIVE_COMPLETION, (const uint8_t *)list, 0, length, 0};
+    want_whole(&offer);
+    expect(wanted_length == answers_length, "the answers known have their length");
+    expect(memcmp(wanted, answers, answers_length) == 0, "the answers known have their bytes");
+    for (int k = 0; k < 4; k++) {
+        offer.sheet = k % 2 == 0 ? XANHUPIVE_COMPLETION : XANHUPIVE_PREDICTION;
+        offer.to = k < 2 ? length : length - 1;
+        for (size_t lent = 0; lent <= 40; lent++) {
+            every_cut(&offer, lent);
+        }
+        for (size_t lent = 700; lent <= XANHUPIVE_LONGEST_ANSWER; lent += 53) {
+            every_cut(&offer, lent);
         }
     }
 }
@@ -394,13 +401,13 @@ static void some_list(uint8_t *list, size_t length)
     for (size_t at = 0; at < length; at++) {
         list[at] = some_byte(rare);
     }
-    for (size_t at = drawn(0, 60); at + sizeof listing <= length; at += drawn(131, 300)) {
-        memcpy(list + at, listing, sizeof listing - 1);
+    for (size_t at = drawn(0, 60); at + listing_length <= length; at += drawn(131, 300)) {
+        memcpy(list + at, listing, listing_length);
         if (at > 0 && drawn(0, 3) > 0) {
             list[at - 1] = '\n';
         }
         if (drawn(0, 3) == 0) {
-            list[at + drawn(0, sizeof listing - 2)] = some_byte(3);
+            list[at + drawn(0, listing_length - 1)] = some_byte(3);
         }
     }
 }
@@ -427,21 +434,36 @@ static void long_lines(void)
     static const size_t lengths[] = {1, 99, 100, 101, 102, 255, 256, 257, 356, 357, 5000, 70000};
     static const size_t sizes[] = {1, 2, 99, 100, 101, 102, 356, 4000};
     static uint8_t list[70000 + sizeof listing];
-    uint8_t answers[LISTED];
     for (size_t k = 0; k < sizeof lengths / sizeof *lengths; k++) {
         size_t length = lengths[k];
         memset(list, '1', length);
         list[length] = '\n';
-        memcpy(list + length + 1, listing, sizeof listing - 1);
-        memcpy(answers, malformed, malformed_length);
-        memcpy(answers + malformed_length, completed, sizeof completed - 1);
+        memcpy(list + length + 1, listing, listing_length);
         for (size_t j = 0; j < sizeof sizes / sizeof *sizes; j++) {
-            struct offer lines = {XANHUPIVE_COMPLETION, list, 0, length + sizeof listing, 0};
             struct offer unfinished = {XANHUPIVE_COMPLETION, list, 0, length, 0};
-            in_parts(&lines, 0, sizes[j], 5, answers, malformed_length + sizeof completed - 1);
-            in_parts(&unfinished, 0, sizes[j], 5, answers, malformed_length);
+            struct offer lines = {XANHUPIVE_COMPLETION, list, 0, length + 1 + listing_length, 0};
+            wanted_length = 0;
+            want(malformed, malformed_length);
+            in_parts(&unfinished, 0, sizes[j], 5);
+            want(completed, completed_length);
+            in_parts(&lines, 0, sizes[j], 5);
         }
     }
+}
+
+/* The close of any reader, lent too little now and then. */
+static void any_close(const struct offer *end)
+{
+    struct told told = call(end, drawn(0, 8));
+    expect(told.fault == NULL, told.fault);
+    if (told.answer != 0) {
+        expect(told.room < malformed_length, "a close with room is not refused");
+        told = call(end, malformed_length);
+        expect(told.answer == 0 && told.wrote == malformed_length, "a close that was refused has an answer");
+    }
+    expect(told.wrote == 0 || told.wrote == malformed_length, "a close writes one answer or none");
+    expect(memcmp(told.out, malformed, told.wrote) == 0, "a close says that the line is malformed");
+    expect(reader_is_new(), "a close leaves a new reader");
 }
 
 /* Readers of any bytes, each last byte among them: no more than is promised of every reader can be asked. */
@@ -461,19 +483,15 @@ static void any_readers(void)
         reader[XANHUPIVE_READER - 1] = (uint8_t)round;
         struct told told = call(&part, drawn(0, 50));
         expect(told.fault == NULL, told.fault);
-        told = call(&end, drawn(0, 8));
-        expect(told.fault == NULL, told.fault);
-        expect(told.answer != 0 ? told.room < malformed_length : told.wrote == 0 || told.wrote == malformed_length, "the close of any reader");
-        expect(told.answer != 0 || told.wrote == 0 || memcmp(told.out, malformed, malformed_length) == 0, "the bytes of such a close");
-        expect(told.answer != 0 || reader_is_new(), "such a close leaves a new reader");
+        any_close(&end);
     }
 }
 
-/* A part and a close with a reader of so many bytes, or a part for what is no sheet: misuse, and all is as it was. */
-static void misused(uint8_t *lent_reader, size_t reader_length, uint64_t sheet, int closes)
+/* A part, or a close, with a reader of so many bytes or for what is no sheet: misuse, and all is as it was. */
+static void misused(uint8_t *lent, size_t length, uint64_t sheet, int closes)
 {
     const uint8_t *part = (const uint8_t *)listing;
-    const size_t lengths[] = {0, 3, sizeof listing - 1};
+    const size_t parts[] = {0, 3, listing_length};
     const size_t rooms[] = {0, 5, 40, XANHUPIVE_LONGEST_ANSWER};
     for (size_t k = 0; k < 12; k++) {
         size_t room = rooms[k % 4];
@@ -481,22 +499,25 @@ static void misused(uint8_t *lent_reader, size_t reader_length, uint64_t sheet, 
         uint64_t took = MARKED;
         uint64_t wrote = MARKED;
         memset(out - AROUND, MARK, AROUND + room);
-        memset(reader_end - reader_length - AROUND, MARK, reader_length + AROUND);
-        uint32_t answer = closes ? xanhupive_close(lent_reader, reader_length, out, room, &wrote)
-                                 : xanhupive_take_part(lent_reader, reader_length, sheet, part, lengths[k / 4], out, room, &took, &wrote);
+        memset(reader_end - length - AROUND, MARK, AROUND + length);
+        uint32_t answer = closes
+            ? xanhupive_close(lent, length, out, room, &wrote)
+            : xanhupive_take_part(lent, length, sheet, part, parts[k / 4], out, room, &took, &wrote);
         expect(answer == XANHUPIVE_MISUSE, "a call that is wrong in itself");
         expect(took == MARKED && wrote == MARKED, "its numbers are as they were");
         expect(all_are(out - AROUND, out_end, MARK), "its room is as it was");
-        expect(all_are(reader_end - reader_length - AROUND, reader_end, MARK), "its reader is as it was");
+        expect(all_are(reader_end - length - AROUND, reader_end, MARK), "its reader is as it was");
     }
 }
 
 static void misuse(void)
 {
-    static const uint64_t no_sheets[] = {2, 3, 255, 256, 65536, UINT64_C(1) << 32, (UINT64_C(1) << 32) + 1, UINT64_C(1) << 63, UINT64_MAX};
+    const uint64_t high = UINT64_C(1) << 32;
+    const uint64_t no_sheets[] = {2, 3, 255, 256, 257, 65536, high, high + 1, high << 31, UINT64_MAX};
     for (size_t length = 0; length < XANHUPIVE_READER; length++) {
-        memset(reader_end - length - AROUND, MARK, length + AROUND);
-        expect(xanhupive_reader_begin(reader_end - length, length) == XANHUPIVE_MISUSE, "a reader too short to begin");
+        memset(reader_end - length - AROUND, MARK, AROUND + length);
+        uint32_t answer = xanhupive_reader_begin(reader_end - length, length);
+        expect(answer == XANHUPIVE_MISUSE, "a reader too short to begin");
         expect(all_are(reader_end - length - AROUND, reader_end, MARK), "it is as it was");
         for (uint64_t sheet = 0; sheet < 3; sheet++) {
             misused(reader_end - length, length, sheet, 0);
@@ -514,34 +535,31 @@ static void misuse(void)
 
 static void null_with_length_0(void)
 {
-    uint64_t took = MARKED;
-    uint64_t wrote = MARKED;
+    struct told told;
     xanhupive_reader_begin(reader, XANHUPIVE_READER);
     for (uint64_t sheet = 0; sheet < 2; sheet++) {
-        took = MARKED;
-        wrote = MARKED;
-        expect(xanhupive_take_part(reader, XANHUPIVE_READER, sheet, NULL, 0, NULL, 0, &took, &wrote) == 0, "nothing taken, no room");
-        expect(took == 0 && wrote == 0, "nothing of nothing");
+        take(&told, sheet, NULL, 0, NULL, 0);
+        expect(told.answer == 0 && told.took == 0 && told.wrote == 0, "nothing taken, no room");
         expect(reader_is_new(), "the reader is a new one still");
     }
-    wrote = MARKED;
-    expect(xanhupive_close(reader, XANHUPIVE_READER, NULL, 0, &wrote) == 0 && wrote == 0, "an empty list closed, no room");
+    close_list(&told, NULL, 0);
+    expect(told.answer == 0 && told.wrote == 0, "an empty list closed, no room");
     expect(reader_is_new(), "and the reader a new one");
 
     const uint8_t *part = (const uint8_t *)listing;
-    expect(xanhupive_take_part(reader, XANHUPIVE_READER, 0, part, 43, NULL, 0, &took, &wrote) == 0, "a part without LF, no room");
-    expect(took == 43 && wrote == 0, "it is taken whole");
-    took = MARKED;
-    wrote = MARKED;
-    expect(xanhupive_take_part(reader, XANHUPIVE_READER, 0, part + 43, 1, NULL, 0, &took, &wrote) == XANHUPIVE_TOO_LONG, "its LF, no room");
-    expect(xanhupive_close(reader, XANHUPIVE_READER, NULL, 0, &wrote) == XANHUPIVE_TOO_LONG, "its close, no room");
-    expect(took == MARKED && wrote == MARKED, "the numbers of both are as they were");
     uint8_t out[34] = {0};
-    expect(xanhupive_take_part(reader, XANHUPIVE_READER, 0, part + 43, 1, out, 33, &took, &wrote) == 0, "its LF, with room");
-    expect(took == 1 && wrote == 33 && memcmp(out, completed, 33) == 0 && out[33] == 0, "and its answer");
+    take(&told, XANHUPIVE_COMPLETION, part, 43, NULL, 0);
+    expect(told.answer == 0 && told.took == 43 && told.wrote == 0, "a part without LF, no room");
+    take(&told, XANHUPIVE_COMPLETION, part + 43, 1, NULL, 0);
+    expect(told.answer == XANHUPIVE_TOO_LONG && told.took == MARKED && told.wrote == MARKED, "its LF, no room");
+    close_list(&told, NULL, 0);
+    expect(told.answer == XANHUPIVE_TOO_LONG && told.wrote == MARKED, "its close, no room");
+    take(&told, XANHUPIVE_COMPLETION, part + 43, 1, out, 33);
+    expect(told.answer == 0 && told.took == 1 && told.wrote == 33, "its LF, with room");
+    expect(memcmp(out, completed, 33) == 0 && out[33] == 0, "and its answer");
 }
 
-/* What stands behind the reader's own bytes is not read and not written. */
+/* What stands behind the reader's own bytes is not written. */
 static void longer_readers(void)
 {
     const uint8_t *part = (const uint8_t *)listing;
@@ -552,11 +570,15 @@ static void longer_readers(void)
         uint64_t took = 0;
         uint64_t wrote = 0;
         memset(lent - AROUND, MARK, AROUND + length);
-        expect(xanhupive_reader_begin(lent, length) == 0, "a longer reader begun");
-        expect(xanhupive_take_part(lent, length, 0, part, sizeof listing - 1, out, sizeof out, &took, &wrote) == 0, "its part");
-        expect(took == sizeof listing - 1 && wrote == sizeof completed - 1 && memcmp(out, completed, wrote) == 0, "the part's answers");
-        expect(xanhupive_take_part(lent, length, 0, part, 5, out, sizeof out, &took, &wrote) == 0 && took == 5 && wrote == 0, "a piece of a line");
-        expect(xanhupive_close(lent, length, out, sizeof out, &wrote) == 0 && wrote == malformed_length, "its close");
+        uint32_t answer = xanhupive_reader_begin(lent, length);
+        expect(answer == 0, "a longer reader begun");
+        answer = xanhupive_take_part(lent, length, 0, part, listing_length, out, sizeof out, &took, &wrote);
+        expect(answer == 0 && took == listing_length && wrote == completed_length, "the listing with it");
+        expect(memcmp(out, completed, completed_length) == 0, "the listing's answers");
+        answer = xanhupive_take_part(lent, length, 0, part, 5, out, sizeof out, &took, &wrote);
+        expect(answer == 0 && took == 5 && wrote == 0, "a piece of a line with it");
+        answer = xanhupive_close(lent, length, out, sizeof out, &wrote);
+        expect(answer == 0 && wrote == malformed_length, "the close with it");
         expect(memcmp(out, malformed, malformed_length) == 0, "the close's answer");
         expect(all_are(lent + XANHUPIVE_READER, reader_end, MARK), "the bytes behind the reader are as they were");
         expect(all_are(lent - AROUND, lent, MARK), "and those before it");
@@ -569,12 +591,19 @@ static int edges(void)
     misuse();
     null_with_length_0();
     longer_readers();
-    the_listing();
+    known_list(listing, listing_length, completed, completed_length);
+    known_list(long_request, sizeof long_request - 1, longest, XANHUPIVE_LONGEST_COMPLETION);
     long_lines();
     random_lists();
     any_readers();
-    printf("parts: %lu passed, %lu failed\n", passed, failed);
-    return failed != 0;
+    return counted("parts");
+}
+
+/* Arguments that are none. */
+static void usage(void)
+{
+    fputs("parts [SEED [0|1]]\n", stderr);
+    exit(2);
 }
 
 /* A whole number that an argument is, from 0 up to a limit. */
@@ -583,8 +612,7 @@ static uint64_t number(const char *word, uint64_t limit)
     char *end;
     unsigned long long value = strtoull(word, &end, 10);
     if (word[0] < '0' || word[0] > '9' || *end != '\0' || value > limit) {
-        fputs("parts [SEED [0|1]]\n", stderr);
-        exit(2);
+        usage();
     }
     return value;
 }
@@ -597,6 +625,9 @@ int main(int count, char **words)
     reader = reader_end - XANHUPIVE_READER;
     if (count < 2) {
         return edges();
+    }
+    if (count > 3) {
+        usage();
     }
     state = number(words[1], UINT64_MAX);
     return answer_list(count == 3 ? number(words[2], 1) : XANHUPIVE_COMPLETION);

@@ -1,7 +1,7 @@
 /*
  * Xanhupive from C: a request line completed, or the shaking of its 24 measures predicted, by the
- * Campbell-Bozorgnia 2008 equations; and a list of such lines answered in parts. Link libexport.a, which `rt staticlib export` writes, and nothing
- * beside it but the C library's memcpy and memset.
+ * Campbell-Bozorgnia 2008 equations; and a list of such lines answered in parts. Link libexport.a, which
+ * `rt staticlib export` writes, and nothing beside it but the C library's memcpy and memset.
  *
  * A request line is the thirteen fields with single spaces between them, without its LF. It may be any
  * bytes of any length: what is not a request line is refused with number 14. The README has the fields
@@ -111,12 +111,14 @@ uint32_t xanhupive_spectrum(const uint8_t *line, size_t line_length, double *row
  *
  * The reader is XANHUPIVE_READER bytes that the caller keeps, at any place and aligned as it likes. They
  * may be copied, stored and sent, and read on another machine; another release may have other readers.
+ * Bytes of a line that was answered may stand there until the list is closed.
  * Whatever stands in them, they are some reader: a reader that was overwritten answers other lines, and
  * nothing worse comes of it.
  *
  *     xanhupive_reader_begin(reader, sizeof reader);
  *     for each part: while some of it is left:
- *         xanhupive_take_part(reader, sizeof reader, XANHUPIVE_COMPLETION, part, part_length, out, sizeof out, &took, &wrote);
+ *         xanhupive_take_part(reader, sizeof reader, XANHUPIVE_COMPLETION, part, part_length,
+ *                             out, sizeof out, &took, &wrote);
  *         write `wrote` bytes of `out` out, and go on `took` bytes further in the part
  *     xanhupive_close(reader, sizeof reader, out, sizeof out, &wrote);
  *
@@ -143,7 +145,8 @@ uint32_t xanhupive_reader_begin(uint8_t *reader, size_t reader_length);
  * Or returns XANHUPIVE_MISUSE, where `reader_length` is below XANHUPIVE_READER or `sheet` is no sheet's
  * number. One list may change its sheet from call to call.
  */
-uint32_t xanhupive_take_part(uint8_t *reader, size_t reader_length, uint64_t sheet, const uint8_t *part, size_t part_length, uint8_t *out, size_t out_length, uint64_t *took, uint64_t *wrote);
+uint32_t xanhupive_take_part(uint8_t *reader, size_t reader_length, uint64_t sheet, const uint8_t *part,
+                             size_t part_length, uint8_t *out, size_t out_length, uint64_t *took, uint64_t *wrote);
 
 /*
  * Ends a list: a last line without its LF is answered with "no 14", however long it is.

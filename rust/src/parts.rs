@@ -35,7 +35,7 @@ extern "C" {
         reader_length: usize,
         out: *mut u8,
         out_length: usize,
-        wrote: *mut u64, // 6 or none
+        wrote: *mut u64,
     ) -> u32;
 }
 

@@ -6,30 +6,13 @@ use mathlib.Core.Bool.{Bool, true, false}
 use mathlib.Core.List.{List}
 use mathlib.Core.Logic.{_↔_}
 use native.Mathlib.Omega.{arith}
-use lib.Dec.{ltb, eqb}
-use lib.ListN.{length, getD, length-append}
-use borrow.Author.Tests.{lt-ltb, le-ltb, ltb-true, ltb-false, eqb-true, eqb-false}
-use Rattle.refusals.specs.Order as No
-use Rattle.outcome.specs.declared.Completion.{Completion}
-use Rattle.outcome.specs.declared.Completion.the-variants as C
-use Rattle.outcome.specs.Answers.{completionOf}
-use Rattle.tables.specs.Tables.{measures}
-use Rattle.model.specs.declared.Shown.{Shown}
-use Rattle.model.specs.Rows.{noShown}
-use Rattle.prediction.specs.declared.shown.ShownSpectrum.{ShownSpectrum}
-use Rattle.prediction.specs.Spectra.{shownSpectrumOf}
+use lib.Dec.{ltb}
+use lib.ListN.{length}
+use borrow.Author.Tests.{lt-ltb, le-ltb, ltb-true, ltb-false}
 use Rattle.lent.specs.declared.Wrote.{Wrote}
 use Rattle.lent.specs.Lent.{countOf, wrote, LentWritten}
-use Rattle.text.specs.declared.read.Line.{Line}
-use Rattle.text.specs.declared.read.Line.the-variants as L
-use Rattle.text.specs.Grammar.{lineOf}
-use Rattle.lines.specs.Lines.{completionLine}
-use Rattle.lines.proofs.LineLaws.{length-ok, length-no}
 use Rattle.answer.specs.declared.Sheet.{Sheet}
-use Rattle.answer.specs.declared.Sheet.the-variants as S
-use Rattle.answer.specs.RowLines.{rowLine, rowLines, spectrumLines}
-use Rattle.answer.specs.Sheets.{sheetOf, replyOf, answerTo, longestAnswer}
-use Rattle.answer.proofs.RowLaws.{length-row, refused-line, good-lines}
+use Rattle.answer.specs.Sheets.{answerTo, longestAnswer}
 use Rattle.answer.proofs.LongestAnswer.{answer-short}
 use Rattle.answer.proofs.SomeAnswer.{some-answer}
 use Rattle.export.specs.Given.{LineGiven}

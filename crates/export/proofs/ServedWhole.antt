@@ -1,12 +1,12 @@
 -- From C too a list in parts gets the answers of the whole: what a call leaves in the lent bytes is the reader that the next one finds.
 -- Assumes nothing.
-use Prim.Native.Nat.{ℕ, _+_, _≤_, _<_}
-use mathlib.Core.Path.{_≡_, refl, sym, ap, subst, _∙_}
+use Prim.Native.Nat.{ℕ, _≤_}
+use mathlib.Core.Path.{_≡_, refl, sym, ap, _∙_}
 use mathlib.Core.Bool.{Bool, true, false}
 use mathlib.Core.List.{List, [], _++_}
 use native.Mathlib.Nat.{zero-add}
 use native.Mathlib.Omega.{arith}
-use borrow.Author.Tests.{le-ltb, lt-ltb, eqb-true, eqb-false, ltb-true, ltb-false}
+use borrow.Author.Tests.{le-ltb, eqb-true, eqb-false, ltb-true, ltb-false}
 use lib.Dec.{eqb, ltb}
 use lib.ListN.{length, take, drop, length-replicate}
 use Rattle.refusals.specs.Order as No
@@ -26,7 +26,7 @@ use Rattle.lists.proofs.WholeList.{no-line, next-full, one-call, closing-is}
 use Rattle.kept.specs.Kept.{readerSize, readerBytes, readerIn}
 use Rattle.kept.proofs.KeptLaws.{found-again, held-full, length-bytes}
 use Rattle.export.specs.declared.parts.Asked.the-variants as A
-use Rattle.export.specs.Parts.{misuse, Loan, loan, told, beginTold, partTold, closeTold, Served, taken, refused, closed, unclosed}
+use Rattle.export.specs.Parts.{Loan, loan, told, beginTold, partTold, closeTold, Served, taken, refused, closed, unclosed}
 use Rattle.export.proofs.TellLaws.{told-refused, told-taken, begin-misuse}
 
 -- ---- told

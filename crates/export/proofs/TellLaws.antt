@@ -2,15 +2,13 @@
 use Prim.Native.Nat.{ℕ, _≤_, _<_}
 use mathlib.Core.Path.{_≡_, refl, sym, ap, _∙_}
 use mathlib.Core.List.{List}
-use native.Mathlib.Omega.{arith}
 use lib.ListN.{length}
 use borrow.Author.Tests.{lt-ltb, le-ltb, eq-eqb, ne-eqb}
-use Rattle.refusals.specs.Order as No
 use Rattle.lent.specs.Lent.{put, after, Written}
 use Rattle.answer.specs.declared.Sheet.{Sheet}
 use Rattle.lists.specs.declared.Reader.{Reader}
 use Rattle.lists.specs.declared.Taken.{Taken}
-use Rattle.lists.specs.Parts.{newReader, closing, partAnswer, closeAnswer, PartTaken, Closed}
+use Rattle.lists.specs.Parts.{newReader, closing, closeAnswer, PartTaken, Closed}
 use Rattle.lists.proofs.Progress.{refused-same, zero-or-sixteen}
 use Rattle.lists.proofs.CloseLaws.{close-refused-same, close-zero-or-sixteen, closed-took}
 use Rattle.kept.specs.Kept.{readerSize, readerBytes, readerIn}

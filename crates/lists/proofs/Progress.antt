@@ -21,7 +21,7 @@ use Rattle.answer.proofs.LongestAnswer.{answer-short}
 use Rattle.lists.specs.declared.Reader.{Reader}
 use Rattle.lists.specs.declared.Taken.{Taken}
 use Rattle.lists.specs.Parts.{lineIn, grown, standIn, firstAnswer, noRoom, partAnswer, PartTaken, notTaken, Ends, ends}
-use Rattle.lists.proofs.StandLaws.{text-fits, left-less, first-full, first-taken, answer-full, answer-fits, not-taken-full}
+use Rattle.lists.proofs.StandLaws.{text-fits, first-full, first-taken, answer-full, answer-fits, not-taken-full}
 
 -- ---- the number
 module _ (sheet : Sheet) (room : ℕ) (r : Reader) (part : List ℕ) where

@@ -1,7 +1,7 @@
 -- Where a reader stands in a part: by its first byte; what it has written fits, what it leaves is the end of the part; and it has written
 -- nothing, with bytes left, exactly where the first answer alone is longer than the room.
 -- Assumes nothing.
-use Prim.Native.Nat.{ℕ, _+_, _-_, _≤_, _<_}
+use Prim.Native.Nat.{ℕ, _-_, _≤_, _<_}
 use mathlib.Core.Path.{_≡_, refl, sym, ap, _∙_}
 use mathlib.Core.Bool.{Bool, true, false, cond}
 use mathlib.Core.List.{List, [], _∷_, _++_}

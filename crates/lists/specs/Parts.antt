@@ -2,7 +2,7 @@
 -- Definitions only.
 use Prim.Native.Nat.{ℕ, _+_, _-_, _<_, _≤_}
 use mathlib.Core.Path.{_≡_}
-use mathlib.Core.Bool.{Bool, true, cond}
+use mathlib.Core.Bool.{cond}
 use mathlib.Core.List.{List, [], _∷_, _++_}
 use lib.Dec.{eqb, ltb}
 use lib.ListN.{length, take, drop, set, replicate}
@@ -89,7 +89,7 @@ partAnswer sheet room r part =
       wrote = length (standIn sheet room r part .text);
     })
 
--- to the close: refused where its answer is longer than the room lent; the reader is then new
+-- to the close: refused where its answer is longer than the room lent; else the reader after it is a new one
 unfoldable pub closeAnswer : ℕ → Reader → Taken
 unfolding closing
 closeAnswer room r =

@@ -95,6 +95,7 @@ impl<'a> Caller<'a> {
                         return;
                     }
                     assert_eq!(part[0], b'\n');
+                    assert!(wrote > 0, "it stopped with nothing written, and no 16");
                     assert!(wrote + self.to_come[0].len() > room, "the next answer had room");
                     room = self.lent;
                 }
@@ -167,6 +168,15 @@ fn the_listing_predicted_in_every_cut() {
         every_cut(Sheet::Prediction, &list, lent, the_longest);
     }
     every_cut(Sheet::Prediction, &list[list.len() - 50..], 0, one_byte_more);
+}
+
+#[test]
+fn the_longest_completion_in_every_cut() {
+    let list = b"650 0 760 - 100000 - 15000 199000 30 200000 - - 10000\n";
+    assert_eq!(line_by_line(Sheet::Completion, list)[0].len(), LONGEST_COMPLETION);
+    for lent in LONGEST_COMPLETION - 5..LONGEST_COMPLETION + 5 {
+        every_cut(Sheet::Completion, list, lent, |_| LONGEST_COMPLETION);
+    }
 }
 
 /// Its last LF is missing, so that the close has an answer.

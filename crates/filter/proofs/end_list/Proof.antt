@@ -3,10 +3,8 @@ use Prim.Native.Nat.{_≤_}
 use mathlib.Core.Path.{sym}
 use native.Mathlib.Omega.{arith}
 use borrow.Author.Needs.{needs}
-use denote.Ref.{now}
 use lib.ListN.{length}
 use lib.Seq.{length-take-le}
-use Rattle.lists.specs.Parts.{closing}
 use Rattle.lists.proofs.CloseLaws.{closed-wrote}
 use Rattle.filter.specs.declared.State.the-variants as S
 use Rattle.filter.specs.Turns.{EndTurn}
