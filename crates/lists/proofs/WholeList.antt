@@ -1,20 +1,20 @@
 -- A list read in parts, cut anywhere, gets the answers of the whole: what is owed for a part and whatever follows it is what was
 -- written, and what is owed for the bytes left and what follows.
 -- Assumes nothing.
-use Prim.Native.Nat.{ℕ, _+_, _≤_, _<_}
-use mathlib.Core.Path.{_≡_, refl, sym, ap, _∙_}
+use Prim.Native.Nat.{ℕ, zero, suc, _+_, _≤_, _<_}
+use mathlib.Core.Path.{_≡_, refl, sym, ap, subst, _∙_}
 use mathlib.Core.Bool.{Bool, true, false, cond}
-use mathlib.Core.List.{List, [], _∷_, _++_, append-assoc}
+use mathlib.Core.List.{List, [], _∷_, _++_, append-assoc, append-nil}
 use native.Mathlib.Omega.{arith}
 use native.Mathlib.Numerals.{add-one}
 use borrow.Author.Tests.{ltb-true, ltb-false, ne-eqb}
 use lib.Dec.{ltb, eqb}
-use lib.ListN.{length, set, length-replicate, length-append, length-set}
+use lib.ListN.{length, set, length-replicate, length-append, length-set, length-drop}
 use lib.Seq.{take-suc-set, length-take-le}
 use Rattle.text.specs.Grammar.{longest}
 use Rattle.numerals.specs.Render.{lf}
 use Rattle.answer.specs.declared.Sheet.{Sheet}
-use Rattle.answer.specs.Sheets.{answerTo}
+use Rattle.answer.specs.Sheets.{answerTo, longestAnswer}
 use Rattle.lists.specs.declared.Reader.{Reader}
 use Rattle.lists.specs.declared.Taken.{Taken}
 use Rattle.lists.specs.Whole.{answersFrom, answersTo}
@@ -22,8 +22,8 @@ use Rattle.lists.specs.Parts.{lineIn, newReader, fresh, grown, closing, 
 use Rattle.lists.proofs.HeldLaws.{held-over, held-whole, over-answer}
 use Rattle.lists.proofs.StandLaws.{first-full, answer-full, answer-fits, not-taken-full, not-taken-fits}
 use Rattle.lists.proofs.PartLaws.{grown-held, grown-over}
-use Rattle.lists.proofs.Progress.{fits-or-full}
-use Rattle.lists.proofs.CloseLaws.{close-full, close-sixteen}
+use Rattle.lists.proofs.Progress.{fits-or-full, takes, never-refused}
+use Rattle.lists.proofs.CloseLaws.{close-full, close-sixteen, close-never-refused}
 
 -- ---- lines too long are all alike
 pub over-alike : (sheet : Sheet) (a b s : List ℕ) → longest < length a → longest < length b → answersFrom sheet a s ≡ answersFrom sheet b s
@@ -186,3 +186,36 @@ pub answered-whole : {sheet : Sheet} {s text : List ℕ} → Answered sheet newR
 unfolding answersTo
 answered-whole {sheet} {s} a =
     answered-from (length-replicate {A = ℕ} longest 0) a ∙ ap (λ (l : List ℕ). answersFrom sheet l s) (no-line newReader)
+
+-- ---- there is always such a way
+-- with room for the longest answer at each call
+at-the-end : (sheet : Sheet) (r : Reader) → Answered sheet r [] (answersFrom sheet (lineIn r) [])
+at-the-end sheet r =
+    subst (Answered sheet r []) (closing-is sheet r)
+    (closed (longestAnswer sheet) r (close-never-refused sheet (longestAnswer sheet) r (omega arith)))
+
+answered-in :
+    (sheet : Sheet) (n : ℕ) (r : Reader) (s : List ℕ) → length (r .held) ≡ longest → length s ≤ n
+    → Answered sheet r s (answersFrom sheet (lineIn r) s)
+answered-in sheet zero r [] full h = at-the-end sheet r
+answered-in sheet zero r (c ∷ cs) full h = absurd (omega arith)
+answered-in sheet (suc n) r [] full h = at-the-end sheet r
+answered-in sheet (suc n) r (c ∷ cs) full h =
+    let room = longestAnswer sheet in
+    let part = c ∷ cs in
+    let t = partAnswer sheet room r part in
+    let rest = notTaken sheet room r part in
+    let some = takes sheet room r part (never-refused sheet room r part (omega arith)) (omega arith) in
+    let more = answered-in sheet n (t .reader) rest (next-full sheet room r part full) (omega (arith, h, some, length-drop (t .took) part)) in
+    let same = append-nil rest in
+    subst (λ (l : List ℕ). Answered sheet r l (answersFrom sheet (lineIn r) l)) (append-nil part)
+    (subst (Answered sheet r (part ++ []))
+    (one-call sheet room r full part [] (answersFrom sheet (lineIn (t .reader)) rest) (ap (answersFrom sheet (lineIn (t .reader))) (sym same)))
+    (offered room r part [] (answersFrom sheet (lineIn (t .reader)) rest)
+    (subst (λ (l : List ℕ). Answered sheet (t .reader) l (answersFrom sheet (lineIn (t .reader)) rest)) (sym same) more)))
+
+pub always-answered : (sheet : Sheet) (s : List ℕ) → Answered sheet newReader s (answersTo sheet s)
+unfolding answersTo
+always-answered sheet s =
+    subst (λ (l : List ℕ). Answered sheet newReader s (answersFrom sheet l s)) (no-line newReader)
+    (answered-in sheet (length s) newReader s (length-replicate {A = ℕ} longest 0) (omega arith))
