@@ -2,13 +2,13 @@
 -- room for the longest answer it is never refused.
 -- Assumes nothing.
 use Prim.Native.Nat.{ℕ, _+_, _≤_, _<_}
-use mathlib.Core.Path.{_≡_, refl, sym, ap, _∙_}
+use mathlib.Core.Path.{_≡_, sym, ap, _∙_}
 use mathlib.Core.Bool.{Bool, true, false, cond}
 use mathlib.Core.List.{List, []}
 use mathlib.Core.Logic.{_↔_}
 use native.Mathlib.Omega.{arith}
-use borrow.Author.Tests.{ltb-true, ltb-false, lt-ltb, le-ltb}
-use lib.Dec.{ltb, eqb}
+use borrow.Author.Tests.{lt-ltb, le-ltb}
+use lib.Dec.{eqb}
 use lib.ListN.{length}
 use Rattle.refusals.specs.Order as No
 use Rattle.lent.specs.declared.Wrote.the-variants as W
@@ -24,6 +24,7 @@ use Rattle.lists.specs.declared.Taken.{Taken}
 use Rattle.lists.specs.Whole.{ending}
 use Rattle.lists.specs.Parts.{heldLine, lineIn, newReader, closing, noRoom, closeAnswer, Closed}
 use Rattle.lists.proofs.HeldLaws.{over-held}
+use Rattle.lists.proofs.StandLaws.{fits-or-not}
 
 -- ---- alike
 same-closed : {a b : Reader} {m n : ℕ} → a ≡ b → m ≡ n
@@ -51,56 +52,62 @@ module _ (room : ℕ) (r : Reader) where
   close-fits h = rw (le-ltb room (length (closing r)) h)
 
   pub close-sixteen : (closeAnswer room r .refusal ≡ No.tooLong) ↔ (room < length (closing r))
-  close-sixteen = (λ e. go e (ltb room (length (closing r))) refl, λ h. ap (λ (t : Taken). t .refusal) (close-full h))
-    where
-      go : closeAnswer room r .refusal ≡ No.tooLong → (t : Bool) → ltb room (length (closing r)) ≡ t → room < length (closing r)
-      go e true f = ltb-true room (length (closing r)) f
-      go e false f = absurd (omega (arith, e, ap (λ (t : Taken). t .refusal) (close-fits (ltb-false room (length (closing r)) f))))
+  close-sixteen = (
+    λ e.
+        fits-or-not room (closing r) (room < length (closing r))
+        (λ h. absurd (omega (arith, e, ap (λ (t : Taken). t .refusal) (close-fits h))))
+        (λ h. h),
+    λ h. ap (λ (t : Taken). t .refusal) (close-full h),
+  )
 
   pub close-fitted : closeAnswer room r .refusal ≡ 0 → length (closing r) ≤ room
-  close-fitted e = go (ltb room (length (closing r))) refl
-    where
-      go : (t : Bool) → ltb room (length (closing r)) ≡ t → length (closing r) ≤ room
-      go true f = absurd (omega (arith, e, ap (λ (t : Taken). t .refusal) (close-full (ltb-true room (length (closing r)) f))))
-      go false f = ltb-false room (length (closing r)) f
+  close-fitted e =
+      fits-or-not room (closing r) (length (closing r) ≤ room)
+      (λ h. h)
+      (λ h. absurd (omega (arith, e, ap (λ (t : Taken). t .refusal) (close-full h))))
 
--- one that is not refused leaves a new reader
-pub closed-new : {r : Reader} {b : List ℕ} {t : Taken} {b₁ : List ℕ} → Closed r b t b₁ → t .refusal ≡ 0 → t .reader ≡ newReader
-closed-new {r} {b} {t} p e = go (ltb (length b) (length (closing r))) refl
-  where
-    go : (u : Bool) → ltb (length b) (length (closing r)) ≡ u → t .reader ≡ newReader
-    go true f =
-        absurd (omega (arith, e, ap (λ (u : Taken). u .refusal) (p .answer ∙ close-full (length b) r (ltb-true (length b) (length (closing r)) f))))
-    go false f = ap (λ (u : Taken). u .reader) (p .answer ∙ close-fits (length b) r (ltb-false (length b) (length (closing r)) f))
+module _ {r : Reader} {b : List ℕ} {t : Taken} {b₁ : List ℕ} (p : Closed r b t b₁) where
+  -- by whether there is room
+  when-fits : length (closing r) ≤ length b → t ≡ record { refusal = 0; reader = newReader; took = 0; wrote = length (closing r) }
+  when-fits h = p .answer ∙ close-fits (length b) r h
 
--- no other number is given
-pub close-zero-or-sixteen : {r : Reader} {b : List ℕ} {t : Taken} {b₁ : List ℕ} → Closed r b t b₁ → (t .refusal ≡ 0 → ⊥) → t .refusal ≡ No.tooLong
-close-zero-or-sixteen {r} {b} {t} p n = go (ltb (length b) (length (closing r))) refl
-  where
-    go : (u : Bool) → ltb (length b) (length (closing r)) ≡ u → t .refusal ≡ No.tooLong
-    go true f = ap (λ (u : Taken). u .refusal) (p .answer ∙ close-full (length b) r (ltb-true (length b) (length (closing r)) f))
-    go false f = absurd (n (ap (λ (u : Taken). u .refusal) (p .answer ∙ close-fits (length b) r (ltb-false (length b) (length (closing r)) f))))
+  when-full : length b < length (closing r) → t ≡ noRoom r
+  when-full h = p .answer ∙ close-full (length b) r h
 
--- no byte is taken
-pub closed-took : {r : Reader} {b : List ℕ} {t : Taken} {b₁ : List ℕ} → Closed r b t b₁ → t .took ≡ 0
-closed-took {r} {b} {t} p = go (ltb (length b) (length (closing r))) refl
-  where
-    go : (u : Bool) → ltb (length b) (length (closing r)) ≡ u → t .took ≡ 0
-    go true f = ap (λ (u : Taken). u .took) (p .answer ∙ close-full (length b) r (ltb-true (length b) (length (closing r)) f))
-    go false f = ap (λ (u : Taken). u .took) (p .answer ∙ close-fits (length b) r (ltb-false (length b) (length (closing r)) f))
+  -- one that is not refused leaves a new reader
+  pub closed-new : t .refusal ≡ 0 → t .reader ≡ newReader
+  closed-new e =
+      fits-or-not (length b) (closing r) (t .reader ≡ newReader)
+      (λ h. ap (λ (u : Taken). u .reader) (when-fits h))
+      (λ h. absurd (omega (arith, e, ap (λ (u : Taken). u .refusal) (when-full h))))
 
-pub close-refused-same : {r : Reader} {b : List ℕ} {t : Taken} {b₁ : List ℕ} → Closed r b t b₁ → t .refusal ≡ No.tooLong → (t ≡ noRoom r) × (b₁ ≡ b)
-close-refused-same {r} {b} p e =
-    let h = close-sixteen (length b) r .0 (ap (λ (u : Taken). u .refusal) (sym (p .answer)) ∙ e) in
-    (p .answer ∙ close-full (length b) r h, p .bytes ∙ after-full b (closing r) h)
+  -- no other number is given
+  pub close-zero-or-sixteen : (t .refusal ≡ 0 → ⊥) → t .refusal ≡ No.tooLong
+  close-zero-or-sixteen n =
+      fits-or-not (length b) (closing r) (t .refusal ≡ No.tooLong)
+      (λ h. absurd (n (ap (λ (u : Taken). u .refusal) (when-fits h))))
+      (λ h. ap (λ (u : Taken). u .refusal) (when-full h))
 
--- one for which there is room has its answer written
-module _ {r : Reader} {b : List ℕ} {t : Taken} {b₁ : List ℕ} (p : Closed r b t b₁) (room : length (closing r) ≤ length b) where
-  pub closed-wrote : t .wrote ≡ length (closing r)
-  closed-wrote = ap (λ (u : Taken). u .wrote) (p .answer ∙ close-fits (length b) r room)
+  -- no byte is taken
+  pub closed-took : t .took ≡ 0
+  closed-took =
+      fits-or-not (length b) (closing r) (t .took ≡ 0)
+      (λ h. ap (λ (u : Taken). u .took) (when-fits h))
+      (λ h. ap (λ (u : Taken). u .took) (when-full h))
 
-  pub closed-bytes : b₁ ≡ put b 0 (closing r)
-  closed-bytes = p .bytes ∙ after-fits b (closing r) room
+  -- a refusal changes nothing
+  pub close-refused-same : t .refusal ≡ No.tooLong → (t ≡ noRoom r) × (b₁ ≡ b)
+  close-refused-same e =
+      let h = close-sixteen (length b) r .0 (ap (λ (u : Taken). u .refusal) (sym (p .answer)) ∙ e) in
+      (when-full h, p .bytes ∙ after-full b (closing r) h)
+
+  -- where there is room the answer is written
+  module _ (room : length (closing r) ≤ length b) where
+    pub closed-wrote : t .wrote ≡ length (closing r)
+    closed-wrote = ap (λ (u : Taken). u .wrote) (when-fits room)
+
+    pub closed-bytes : b₁ ≡ put b 0 (closing r)
+    closed-bytes = p .bytes ∙ after-fits b (closing r) room
 
 pub closed-one : {r : Reader} {b : List ℕ} {t u : Taken} {b₁ b₂ : List ℕ} → Closed r b t b₁ → Closed r b u b₂ → (t ≡ u) × (b₁ ≡ b₂)
 closed-one v w = (v .answer ∙ sym (w .answer), v .bytes ∙ sym (w .bytes))

@@ -1,12 +1,10 @@
 -- The reader byte by byte: what holds from turn to turn of the loop over a part, and what each turn does to it. Assumes nothing.
 use Prim.Native.Nat.{ℕ, _+_, _-_, _≤_, _<_}
 use mathlib.Core.Path.{_≡_, refl, sym, ap, subst, _∙_}
-use mathlib.Core.Bool.{Bool, true, false}
 use mathlib.Core.List.{List, [], _++_}
 use native.Mathlib.Omega.{arith}
 use native.Mathlib.Numerals.{add-one}
-use borrow.Author.Tests.{eq-eqb, ne-eqb, lt-ltb, le-ltb, ltb-true, ltb-false}
-use lib.Dec.{ltb}
+use borrow.Author.Tests.{eq-eqb, ne-eqb, lt-ltb, le-ltb}
 use lib.ListN.{length, getD, take, drop, set, length-append, length-drop, length-set, drop-of-length-le}
 use lib.Seq.{drop-cons, drop-drop, length-take-le}
 use Rattle.lent.specs.declared.Wrote.the-variants as W
@@ -21,7 +19,7 @@ use Rattle.answer.specs.Sheets.{answerTo}
 use Rattle.lists.specs.declared.Reader.{Reader}
 use Rattle.lists.specs.declared.Taken.{Taken}
 use Rattle.lists.specs.Parts.{lineIn, fresh, grown, Stand, readFrom, standIn, firstAnswer, noRoom, PartTaken}
-use Rattle.lists.proofs.StandLaws.{first-full, first-fits, answer-full, answer-fits}
+use Rattle.lists.proofs.StandLaws.{fits-or-not, first-full, first-fits, answer-full, answer-fits}
 
 -- ---- what the reader makes of a part from a place on, by the byte at that place
 module _ (sheet : Sheet) (room : ℕ) (r : Reader) (text part : List ℕ) (i : ℕ) where
@@ -54,21 +52,17 @@ same-taken p q e = cc
 module _ (sheet : Sheet) (room : ℕ) (r : Reader) (part : List ℕ) where
   -- the first answer fits, where bytes left say that some were written
   not-full : (0 < length (standIn sheet room r part .left) → 0 < length (standIn sheet room r part .text)) → length (firstAnswer sheet r part) ≤ room
-  not-full some = go (ltb room (length (firstAnswer sheet r part))) refl
-    where
-      go : (t : Bool) → ltb room (length (firstAnswer sheet r part)) ≡ t → length (firstAnswer sheet r part) ≤ room
-      go true e =
-          let f = first-full sheet room r part (ltb-true room (length (firstAnswer sheet r part)) e) in
-          absurd (omega (arith, ap length (f .0), some (f .1)))
-      go false e = ltb-false room (length (firstAnswer sheet r part)) e
+  not-full some =
+      fits-or-not room (firstAnswer sheet r part) (length (firstAnswer sheet r part) ≤ room)
+      (λ h. h)
+      (λ h. let f = first-full sheet room r part h in absurd (omega (arith, ap length (f .0), some (f .1))))
 
   -- it does not, where some are left and none was written
   not-fits : 0 < length (standIn sheet room r part .left) → length (standIn sheet room r part .text) ≡ 0 → room < length (firstAnswer sheet r part)
-  not-fits some none = go (ltb room (length (firstAnswer sheet r part))) refl
-    where
-      go : (t : Bool) → ltb room (length (firstAnswer sheet r part)) ≡ t → room < length (firstAnswer sheet r part)
-      go true e = ltb-true room (length (firstAnswer sheet r part)) e
-      go false e = absurd (omega (arith, none, first-fits sheet room r part (ltb-false room (length (firstAnswer sheet r part)) e) some))
+  not-fits some none =
+      fits-or-not room (firstAnswer sheet r part) (room < length (firstAnswer sheet r part))
+      (λ h. absurd (omega (arith, none, first-fits sheet room r part h some)))
+      (λ h. h)
 
 -- ---- one byte more
 pub grown-held : (r : Reader) (c : ℕ) → r .count < longest → grown r c ≡ record { held = set (r .held) (r .count) c; count = r .count + 1 }

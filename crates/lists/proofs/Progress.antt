@@ -8,8 +8,8 @@ use mathlib.Core.Bool.{Bool, true, false, cond}
 use mathlib.Core.List.{List, [], _∷_, _++_}
 use mathlib.Core.Logic.{_↔_}
 use native.Mathlib.Omega.{arith}
-use borrow.Author.Tests.{ltb-true, ltb-false, ne-eqb}
-use lib.Dec.{ltb, eqb}
+use borrow.Author.Tests.{ne-eqb}
+use lib.Dec.{eqb}
 use lib.ListN.{length, length-append, length-drop}
 use Rattle.refusals.specs.Order as No
 use Rattle.lent.specs.Lent.{put}
@@ -21,7 +21,7 @@ use Rattle.answer.proofs.LongestAnswer.{answer-short}
 use Rattle.lists.specs.declared.Reader.{Reader}
 use Rattle.lists.specs.declared.Taken.{Taken}
 use Rattle.lists.specs.Parts.{lineIn, grown, standIn, firstAnswer, noRoom, partAnswer, PartTaken, notTaken, Ends, ends}
-use Rattle.lists.proofs.StandLaws.{text-fits, first-full, first-taken, answer-full, answer-fits, not-taken-full}
+use Rattle.lists.proofs.StandLaws.{fits-or-not, text-fits, first-full, first-taken, answer-full, answer-fits, not-taken-full}
 
 -- ---- the number
 module _ (sheet : Sheet) (room : ℕ) (r : Reader) (part : List ℕ) where
@@ -33,11 +33,7 @@ module _ (sheet : Sheet) (room : ℕ) (r : Reader) (part : List ℕ) where
   number-fits h = ap (λ (t : Taken). t .refusal) (answer-fits sheet room r part h)
 
   pub fits-or-full : (P : Type 0) → (length (firstAnswer sheet r part) ≤ room → P) → (room < length (firstAnswer sheet r part) → P) → P
-  fits-or-full P fits full = go (ltb room (length (firstAnswer sheet r part))) refl
-    where
-      go : (t : Bool) → ltb room (length (firstAnswer sheet r part)) ≡ t → P
-      go true e = full (ltb-true room (length (firstAnswer sheet r part)) e)
-      go false e = fits (ltb-false room (length (firstAnswer sheet r part)) e)
+  fits-or-full = fits-or-not room (firstAnswer sheet r part)
 
   -- 16 says that the next answer is longer than the room, and nothing else gives it
   pub sixteen-exactly : (partAnswer sheet room r part .refusal ≡ No.tooLong) ↔ (room < length (firstAnswer sheet r part))

@@ -18,6 +18,14 @@ use Rattle.lists.specs.declared.Reader.{Reader}
 use Rattle.lists.specs.declared.Taken.{Taken}
 use Rattle.lists.specs.Parts.{lineIn, fresh, grown, Stand, readFrom, standIn, firstAnswer, noRoom, partAnswer, notTaken}
 
+-- a text fits the room lent, or it does not
+pub fits-or-not : (room : ℕ) (s : List ℕ) (P : Type 0) → (length s ≤ room → P) → (room < length s → P) → P
+fits-or-not room s P fits full = go (ltb room (length s)) refl
+  where
+    go : (t : Bool) → ltb room (length s) ≡ t → P
+    go true e = full (ltb-true room (length s) e)
+    go false e = fits (ltb-false room (length s) e)
+
 module _ (sheet : Sheet) (room : ℕ) where
   -- one case for each way on
   module _ (P : Stand → Type 0) (r : Reader) (text : List ℕ) (c : ℕ) (cs : List ℕ) where
