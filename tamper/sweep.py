@@ -100,9 +100,7 @@ MORE = [
     ("code", "crates/text/src/*.rt", EVERY, "text"),
     ("code", "crates/numerals/src/*.rt", EVERY, "numerals"),
     ("code", "crates/lists/src/*.rt", EVERY, "lists"),
-    ("code", "crates/kept/src/*.rt", of("READER"), "export"),
     ("code", "crates/kept/src/*.rt", EVERY, "kept"),
-    ("code", "crates/export/src/parts.rt", EVERY, "export"),
     # The exact value is held to known values by `exact`; what 64-bit functions reckon is held to it by `fixed` and to code by `reckon`.
     ("specs", "crates/exact/specs/*.antt", EVERY, "fixed"),
     ("specs", "crates/fixed/specs/*.antt", EVERY, "reckon"),
@@ -136,7 +134,6 @@ MORE = [
     ("specs", "crates/answer/specs/*.antt", of("spectrumLines"), "answer"),
     ("specs", "crates/lists/specs/*.antt", EVERY, "lists"),
     ("specs", "crates/kept/specs/*.antt", EVERY, "kept"),
-    ("specs", "crates/export/specs/Parts.antt", EVERY, "export"),
     ("specs", "crates/export/specs/*.antt", of("spectrumRefusal spectrumAfter"), "export"),
     ("second", "second/model.c", of("C N ROCK SIGMA_AF f_mag f_flt f_hng_r f_hng_m f_hng f_sed rock_pga slope intra_squared"), None),
     ("second", "second/*.h", re.compile(r": #define "), None),

@@ -3,5 +3,3 @@ pub mod LineLaws
 pub mod MeasureLaws
 pub mod SpectrumLaws
 pub mod OneAnswer
-pub mod TellLaws
-pub mod ServedWhole

@@ -1,51 +1,20 @@
-// A list in parts, its reader in bytes that the caller lends. Whatever stands in them, it is some
-// reader. A call that is wrong in itself is answered with MISUSE, and a refusal or a misuse leaves all
-// that was lent as it was.
-use answer::Sheet;
-use kept::READER;
-use kept::put_reader;
-use kept::reader_in;
-use lists::close_list;
-use lists::new_reader;
-use lists::take_part;
+// A list in parts by the names of C: each function is one of `kept`.
+use kept::begin_reader;
+use kept::close_in;
+use kept::take_in;
 ghost use mathlib.Core.Path.{_≡_};
-ghost use Rattle.export.specs.Parts.{loan, numbered, beginTold, partTold, closeTold};
+ghost use Rattle.kept.specs.Calls.{loan, numbered, beginTold, partTold, closeTold};
 
-// The number of a call that is wrong in itself, which is no refusal.
-const MISUSE: u32 = 255;
-
-// A sheet asked for by its number, or none that there is.
-enum Asked {
-    Sheet(Sheet),
-    None,
-}
-
-// The sheet of a number.
-fn sheet_numbered(n: u64) -> Asked
-    ensures { λ a. ⌜ a ≡ numbered n ⌝ }
-{
-    if n == 0 {
-        return Asked::Sheet(Sheet::Completion);
-    }
-    if n == 1 {
-        return Asked::Sheet(Sheet::Prediction);
-    }
-    Asked::None
-}
-
-// A reader before the first byte of a list: 0, or MISUSE where it is lent too few bytes.
+// A reader before the first byte of a list: 0, or 255 where it is lent too few bytes.
 #[no_mangle]
 pub extern "C" fn xanhupive_reader_begin(reader: &mut [u8]) -> u32
     ensures { λ n. ⌜ (n, now (reader .exit)) ≡ beginTold (now (reader .entry)) ⌝ }
 {
-    if READER <= reader.len() {
-        put_reader(reader, new_reader());
-        return 0;
-    }
-    MISUSE
+    begin_reader(reader)
 }
 
-// A part of a list: 0, with how many of its bytes were taken and how many written; or TOO_LONG.
+// A part of a list: 0, with how many of its bytes were taken and how many written; or 16; or 255 for too
+// few bytes of a reader or a number that is no sheet's.
 #[no_mangle]
 pub extern "C" fn xanhupive_take_part(
     reader: &mut [u8],
@@ -57,39 +26,13 @@ pub extern "C" fn xanhupive_take_part(
 ) -> u32
     ensures { λ n. ⌜ (n, loan (now (reader .exit)) (now (out .exit)) (now (took .exit)) (now (wrote .exit))) ≡ partTold (numbered sheet) (now (part .entry)) (loan (now (reader .entry)) (now (out .entry)) (now (took .entry)) (now (wrote .entry))) ⌝ }
 {
-    if reader.len() < READER {
-        return MISUSE;
-    }
-    let Asked::Sheet(s) = sheet_numbered(sheet) else {
-        return MISUSE;
-    };
-    let taken = take_part(s, reader_in(reader), part, out);
-    let refusal = taken.refusal;
-    if refusal != 0 {
-        return refusal;
-    }
-    let next = taken.reader;
-    put_reader(reader, next);
-    *took = taken.took as u64;
-    *wrote = taken.wrote as u64;
-    0
+    take_in(reader, sheet, part, out, took, wrote)
 }
 
-// The end of a list: 0, with how many bytes were written, and a new reader; or TOO_LONG.
+// The end of a list: 0, with how many bytes were written, and a new reader; or 16; or 255.
 #[no_mangle]
 pub extern "C" fn xanhupive_close(reader: &mut [u8], out: &mut [u8], wrote: &mut u64) -> u32
     ensures { λ n. ⌜ (n, loan (now (reader .exit)) (now (out .exit)) 0 (now (wrote .exit))) ≡ closeTold (loan (now (reader .entry)) (now (out .entry)) 0 (now (wrote .entry))) ⌝ }
 {
-    if reader.len() < READER {
-        return MISUSE;
-    }
-    let closed = close_list(reader_in(reader), out);
-    let number = closed.refusal;
-    if number != 0 {
-        return number;
-    }
-    let next = closed.reader;
-    put_reader(reader, next);
-    *wrote = closed.wrote as u64;
-    0
+    close_in(reader, out, wrote)
 }

@@ -1,1 +1,3 @@
 pub mod KeptLaws
+pub mod TellLaws
+pub mod ServedWhole

@@ -1,5 +1,10 @@
 // A list's reader in bytes that a caller lends between calls: those of its unfinished line, and then
 // how many these are. Any bytes are some reader.
+mod calls;
+
+pub use calls::begin_reader;
+pub use calls::close_in;
+pub use calls::take_in;
 use lent::put_byte;
 use lent::put_text;
 use lists::Reader;
@@ -11,10 +16,10 @@ ghost use Rattle.lent.specs.Lent.{Written};
 ghost use Rattle.kept.specs.Kept.{readerSize, readerBytes, readerIn};
 
 // How many bytes a reader has.
-pub const READER: usize = LONGEST + 1;
+const READER: usize = LONGEST + 1;
 
 // The reader in lent bytes.
-pub fn reader_in(b: &[u8]) -> Reader
+fn reader_in(b: &[u8]) -> Reader
     requires { ⌜ readerSize ≤ length (now b) ⌝ }
     ensures { λ r. ⌜ r ≡ readerIn (now (b .entry)) ⌝ }
 {
@@ -28,7 +33,7 @@ pub fn reader_in(b: &[u8]) -> Reader
 }
 
 // Writes a reader at the start of lent bytes.
-pub fn put_reader(b: &mut [u8], r: Reader) -> usize
+fn put_reader(b: &mut [u8], r: Reader) -> usize
     requires { ⌜ readerSize ≤ length (now b) ⌝ }
     ensures { λ p. ⌜ Written (now (b .entry)) 0 (readerBytes r) p (now (b .exit)) ⌝ }
 {

@@ -1,4 +1,4 @@
--- From C too a list in parts gets the answers of the whole: what a call leaves in the lent bytes is the reader that the next one finds.
+-- By these calls too a list in parts gets the answers of the whole: what a call leaves in the lent bytes is the reader that the next one finds.
 -- Assumes nothing.
 use Prim.Native.Nat.{ℕ, _≤_}
 use mathlib.Core.Path.{_≡_, refl, sym, ap, _∙_}
@@ -23,11 +23,11 @@ use Rattle.lists.proofs.StandLaws.{text-fits}
 use Rattle.lists.proofs.Progress.{wrote-is}
 use Rattle.lists.proofs.CloseLaws.{close-fits, close-fitted}
 use Rattle.lists.proofs.WholeList.{no-line, next-full, one-call, closing-is}
 use Rattle.kept.specs.Kept.{readerSize, readerBytes, readerIn}
 use Rattle.kept.proofs.KeptLaws.{found-again, held-full, length-bytes}
-use Rattle.export.specs.declared.parts.Asked.the-variants as A
-use Rattle.export.specs.Parts.{Loan, loan, told, beginTold, partTold, closeTold, Served, taken, refused, closed, unclosed}
-use Rattle.export.proofs.TellLaws.{told-refused, told-taken, begin-misuse}
+use Rattle.kept.specs.declared.calls.Asked.the-variants as A
+use Rattle.kept.specs.Calls.{Loan, loan, told, beginTold, partTold, closeTold, Served, taken, refused, closed, unclosed}
+use Rattle.kept.proofs.TellLaws.{told-refused, told-taken, begin-misuse}
 
 -- ---- told
 module _ (l l₁ : Loan) (t : Taken) (out : List ℕ) where

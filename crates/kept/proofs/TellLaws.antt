@@ -11,10 +11,10 @@ use Rattle.lists.specs.declared.Taken.{Taken}
 use Rattle.lists.specs.Parts.{newReader, closing, closeAnswer, PartTaken, Closed}
 use Rattle.lists.proofs.Progress.{refused-same, zero-or-sixteen}
 use Rattle.lists.proofs.CloseLaws.{close-refused-same, close-zero-or-sixteen, closed-took}
 use Rattle.kept.specs.Kept.{readerSize, readerBytes, readerIn}
-use Rattle.export.specs.declared.parts.Asked.{Asked}
-use Rattle.export.specs.declared.parts.Asked.the-variants as A
-use Rattle.export.specs.Parts.{misuse, Loan, loan, told, beginTold, partTold, closeTold}
+use Rattle.kept.specs.declared.calls.Asked.{Asked}
+use Rattle.kept.specs.declared.calls.Asked.the-variants as A
+use Rattle.kept.specs.Calls.{misuse, Loan, loan, told, beginTold, partTold, closeTold}
 
 -- ---- a reader's answer
 -- a refusal that left the bytes for answers as they were

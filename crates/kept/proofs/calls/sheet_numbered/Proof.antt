@@ -1,8 +1,8 @@
 -- By the number. Assumes nothing.
 use borrow.Author.Tests.{eq-eqb, ne-eqb}
-use Rattle.export.specs.Parts.{numbered}
-use Rattle.export.proofs.parts.sheet_numbered.Statement.{statement}
-use Rattle.export.proofs.parts.sheet_numbered.Tie as tie
+use Rattle.kept.specs.Calls.{numbered}
+use Rattle.kept.proofs.calls.sheet_numbered.Statement.{statement}
+use Rattle.kept.proofs.calls.sheet_numbered.Tie as tie
 
 returns : tie.Need-returns
 unfolding numbered

@@ -1,4 +1,5 @@
--- A list in parts from C: the sheet by its number, and what a call tells and leaves in what was lent. Definitions only.
+-- The calls of a list in parts with its reader in lent bytes: the sheet by its number, and what a call tells and leaves in what was lent.
+-- Definitions only.
 use Prim.Native.Nat.{ℕ}
 use mathlib.Core.Path.{_≡_}
 use mathlib.Core.Bool.{cond}
@@ -11,9 +12,9 @@ use Rattle.answer.specs.declared.Sheet.{Sheet}
 use Rattle.answer.specs.declared.Sheet.the-variants as S
 use Rattle.lists.specs.declared.Taken.{Taken}
 use Rattle.lists.specs.Parts.{newReader, closing, standIn, partAnswer, closeAnswer}
 use Rattle.kept.specs.Kept.{readerSize, readerBytes, readerIn}
-use Rattle.export.specs.declared.parts.Asked.{Asked}
-use Rattle.export.specs.declared.parts.Asked.the-variants as A
+use Rattle.kept.specs.declared.calls.Asked.{Asked}
+use Rattle.kept.specs.declared.calls.Asked.the-variants as A
 
 -- the number of a call that is wrong in itself, which is no refusal
 abbrev pub misuse : ℕ

@@ -1,9 +1,9 @@
 -- A new reader's bytes stand first; too few are left as they were. Assumes nothing.
 use borrow.Author.Needs.{needs}
 use denote.Ref.{now}
-use Rattle.export.proofs.TellLaws.{begin-misuse, begin-good}
-use Rattle.export.proofs.parts.xanhupive_reader_begin.Statement.{statement}
-use Rattle.export.proofs.parts.xanhupive_reader_begin.Tie as tie
+use Rattle.kept.proofs.TellLaws.{begin-misuse, begin-good}
+use Rattle.kept.proofs.calls.begin_reader.Statement.{statement}
+use Rattle.kept.proofs.calls.begin_reader.Tie as tie
 
 new-reader-requires : tie.Need-new-reader-requires
 new-reader-requires c κs = search needs
@@ -23,6 +23,6 @@ returns c =
 returns-2 : tie.Need-returns-2
 returns-2 c = begin-misuse (now (c .before .before .args .reader)) (c .if1 .left)
 
-pub xanhupive-reader-begin-spec : {M : Type 1} → statement M
-xanhupive-reader-begin-spec =
+pub begin-reader-spec : {M : Type 1} → statement M
+begin-reader-spec =
     tie.close (tie.spec new-reader-requires put-reader-requires same-length returns returns-2)
