@@ -50,6 +50,27 @@ cross-core S n E E' EL l r' hE hE' top near h1 h2 =
       mul-le-mul-left n hE,
     )
 
+-- what grows from S to at most 2 S as r goes from 0 to L, and doubles with each further L, grows everywhere
+pub doubling-mono :
+    (e : ℕ → ℕ) (S L : ℕ) → 0 < L → ((r r' : ℕ) → r ≤ r' → e r ≤ e r') → ((r : ℕ) → S ≤ e r) → e L ≤ 2 * S
+    → (x y : ℕ) → x ≤ y → 2 ^ (x / L) * e (x % L) ≤ 2 ^ (y / L) * e (y % L)
+doubling-mono e S L hL grows least top x y h = either (decLe (y / L) (x / L))
+  where
+    up-q : x / L ≤ y / L
+    up-q = div-le L h
+
+    either : Dec (y / L ≤ x / L) → 2 ^ (x / L) * e (x % L) ≤ 2 ^ (y / L) * e (y % L)
+    either (yes k) =
+        let q : y / L ≡ x / L = omega (arith, up-q) in
+        let r : x % L ≤ y % L = omega (arith, ap (λ (t : ℕ). t * L) q, div-add-mod' x L, div-add-mod' y L) in
+        rw q (mul-le-mul-left (2 ^ (x / L)) (grows (x % L) (y % L) r))
+    either (no k) =
+        le-trans (mul-le-mul-left (2 ^ (x / L)) (le-trans (grows (x % L) L (le-of-lt (mod-lt x hL))) top))
+        (le-trans (le-of-eq double) (mul-le-mul (pow-le-pow-right (lit≤ tt) (lt-of-not-le k)) (least (y % L))))
+      where
+        double : 2 ^ (x / L) * (2 * S) ≡ 2 ^ suc (x / L) * S
+        double = omega (arith, ap (λ (t : ℕ). t * S) (pow-succ' 2 (x / L)), mul-assoc 2 (2 ^ (x / L)) S, mul-left-comm (2 ^ (x / L)) 2 S)
+
 module _ (S n L : ℕ) (hS : 0 < S) (hL : 0 < L) (L-le : 4 * L ≤ 3 * S) (top : expSeries S (suc n) L ≤ 2 * S) (near : 2 * S ≤ expSeries S (suc n) L + 75) where
   -- ---- one more multiple of L doubles
   pub expFrom-next : (x : ℕ) → expFrom S (suc n) L (x + L) ≡ 2 * expFrom S (suc n) L x
@@ -106,22 +127,7 @@ module _ (S n L : ℕ) (hS : 0 < S) (hL : 0 < L) (L-le : 4 * L ≤ 3 * S) (top :
   -- ---- it grows
   pub expFrom-mono : (x y : ℕ) → x ≤ y → expFrom S (suc n) L x ≤ expFrom S (suc n) L y
   unfolding expFrom
-  expFrom-mono x y h = either (decLe (y / L) (x / L))
-    where
-      up-q : x / L ≤ y / L
-      up-q = div-le L h
-
-      either : Dec (y / L ≤ x / L) → 2 ^ (x / L) * expSeries S (suc n) (x % L) ≤ 2 ^ (y / L) * expSeries S (suc n) (y % L)
-      either (yes k) =
-          let q : y / L ≡ x / L = omega (arith, up-q) in
-          let r : x % L ≤ y % L = omega (arith, ap (λ (t : ℕ). t * L) q, div-add-mod' x L, div-add-mod' y L) in
-          rw q (mul-le-mul-left (2 ^ (x / L)) (expSeries-mono S (suc n) r))
-      either (no k) =
-          le-trans (mul-le-mul-left (2 ^ (x / L)) (le-trans (expSeries-mono S (suc n) (le-of-lt (mod-lt x hL))) top))
-          (le-trans (le-of-eq double) (mul-le-mul (pow-le-pow-right (lit≤ tt) (lt-of-not-le k)) (expSeries-one S n (y % L))))
-        where
-          double : 2 ^ (x / L) * (2 * S) ≡ 2 ^ suc (x / L) * S
-          double = omega (arith, ap (λ (t : ℕ). t * S) (pow-succ' 2 (x / L)), mul-assoc 2 (2 ^ (x / L)) S, mul-left-comm (2 ^ (x / L)) 2 S)
+  expFrom-mono = doubling-mono (expSeries S (suc n)) S L hL (λ r r' h. expSeries-mono S (suc n) h) (expSeries-one S n) top
 
   -- ---- how far it moves
   abbrev pub exp-slack : ℕ

@@ -2,4 +2,5 @@ pub mod LnTwos
 pub mod SignedLaws
 pub mod LnNear
 pub mod ExpNear
+pub mod Growing
 pub mod SineNear

@@ -15,13 +15,14 @@ use Rattle.model.specs.declared.Scenario.{Scenario}
 use Rattle.model.specs.Equations.{E24, alpha, intraVariance, median, intra, total, arbitrary, rockPGA, joined, inter}
 use Rattle.model.specs.Accuracy.{InRange, exactOf, Accurate}
 use Rattle.exact.proofs.Signed.{by-sign}
-use Rattle.model.specs.Fixed.{squaredFixed, alphaFixed, varianceFixed, fineFixed, rowFixed, rockPGAFixed, intraVarianceFixed, FineInRange}
+use Rattle.model.specs.Fixed.{squaredFixed, alphaFixed, varianceFixed, ownFixed, raised, fineFixed, rowFixed, rockPGAFixed, intraVarianceFixed, FineInRange}
 use Rattle.model.proofs.Alpha.{alpha-near, alphaLow, alpha-between}
 use Rattle.model.specs.FineNear.{Between, RootNear, FineNear}
 use Rattle.model.proofs.SigmaNear.{joined-near}
 use Rattle.model.proofs.Variance.{square-root, variance-near, variance-high, variance-low}
 use Rattle.model.proofs.Fair.{fair-at, spread-at}
-use Rattle.model.proofs.Median.{rock-is-near, lnMedian-near, lnMedian-between, lnMedian-size}
+use Rattle.model.proofs.Median.{rock-is-near}
+use Rattle.model.proofs.ShortPeriods.{lnMedian-near, lnMedian-between, lnMedian-size}
 use Rattle.model.proofs.Quotients.{pos-low}
 use Rattle.model.proofs.Reported.{report-accurate}
 use Rattle.exact.proofs.NearLaws.{near-wide}
@@ -130,7 +131,7 @@ module _ (i : ℕ) (x : Scenario) (h : i < 24) (r : InRange x) where
       }
 
   pub fine-near : FineNear (exactOf i x) (fineFixed i x)
-  unfolding exactOf fineFixed median inter
+  unfolding exactOf fineFixed raised ownFixed median inter
   fine-near =
       record {
         ln-near = lnMedian-near i x h r;
@@ -150,7 +151,7 @@ module _ (i : ℕ) (x : Scenario) (h : i < 24) (r : InRange x) where
       top v w k l = omega arith
 
   pub fine-in-range : FineInRange (fineFixed i x)
-  unfolding fineFixed
+  unfolding fineFixed raised ownFixed
   fine-in-range =
       let d = spread-at i h in
       let t-high : t2 ≤ 250000000 = mul-le-mul-right 1000 (mul-le-mul (d .t-high) (d .t-high)) in

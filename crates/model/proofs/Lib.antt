@@ -11,6 +11,7 @@ pub mod Ends
 pub mod Rock
 pub mod SiteNear
 pub mod Median
+pub mod ShortPeriods
 pub mod Reported
 pub mod Alpha
 pub mod Variance

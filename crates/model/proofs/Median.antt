@@ -1,5 +1,5 @@
--- The exact ln median of every measure and request in range lies between -15 and 13, and the program's is within 400 units of 10^-9
--- of it. Below k1 the site term is at least 2 c10 below zero, for c10 above zero, and at most 2.93 |k2| above it, and 2 |c10| for c10
+-- The exact ln median of every measure by itself, of a request in range, lies between -15 and 13, and the program's is within 400 units
+-- of 10^-9 of it. Below k1 the site term is at least 2 c10 below zero, for c10 above zero, and at most 2.93 |k2| above it, and 2 |c10| for c10
 -- below zero, as ln(V/k1) lies between -2 and 0 and ln B - ln C between -2.93 and 0; from k1 up it lies between 1.02 (c10 + k2 n) and
 -- 0. One computed test over 24 rows and 451 magnitudes says that the sums stay inside. Assumes nothing.
 use Prim.Native.Nat.{ℕ, _+_, _*_, _/_, _≤_, _<_}
@@ -18,7 +18,7 @@ use Rattle.fixed.specs.Fixed.{K21}
 use Rattle.tables.specs.declared.Coefficients.{Coefficients}
 use Rattle.tables.specs.Tables.{table2, coefficientsAt}
 use Rattle.model.specs.declared.Scenario.{Scenario}
-use Rattle.model.specs.Equations.{siteC, times, fSite, linear, E27, fMag, curve, least, E24, lnMedian, rockPGA, lnMedianAt}
+use Rattle.model.specs.Equations.{siteC, times, fSite, linear, E27, fMag, curve, least, E24, lnOwn, rockPGA, lnMedianAt}
 use Rattle.model.proofs.Curve.{Paired, minusTwo, curve-low, below-between, curve-high}
 use Rattle.model.proofs.Fair.{leAll, LeAll, Fair, le-all, fair-at}
 use Rattle.model.specs.FineNear.{Between, minusFifteen}
@@ -30,7 +30,7 @@ use Rattle.model.proofs.Ends.{lowEnd, highEnd, farEnd, distance-between
 use Rattle.exact.proofs.Signed.{sub-is}
 use lib.Ieee.Nearest.{div-mono}
 use Rattle.model.specs.Accuracy.{InRange}
-use Rattle.model.specs.Fixed.{lnMedianFixed, rockPGAFixed}
+use Rattle.model.specs.Fixed.{lnOwnFixed, rockPGAFixed}
 
 -- ---- the ends of the site term below k1
 -- ln B - ln C
@@ -156,9 +156,9 @@ pub ln-sixteen : 0 + dn (lnE (4000 * 4000 * E24)) ≤ up (lnE (4000 * 4000 * E24
 unfolding lnE
 ln-sixteen = lit≤ tt
 
-pub lnMedian-between : (i : ℕ) (x : Scenario) → i < 24 → InRange x → Between minusFifteen (pos (13 * E30)) (lnMedian i x)
-unfolding lnMedian endFacts
-lnMedian-between i x h r = go (ltb (x .vs30) (coefficientsAt i .k1)) refl
+pub lnOwn-between : (i : ℕ) (x : Scenario) → i < 24 → InRange x → Between minusFifteen (pos (13 * E30)) (lnOwn i x)
+unfolding lnOwn endFacts
+lnOwn-between i x h r = go (ltb (x .vs30) (coefficientsAt i .k1)) refl
   where
     f : Fair (coefficientsAt i)
     f = fair-at i h
@@ -187,11 +187,11 @@ lnMedian-between i x h r = go (ltb (x .vs30) (coefficientsAt i .k1)) refl
 pub rock-is-near : (x : Scenario) → InRange x → RockNear (rockPGAFixed x) (rockPGA x)
 rock-is-near x r = record { near = rock-near x r; fixed-top = rock-top-fixed x r; exact-top = rock-top x r }
 
-pub lnMedian-near : (i : ℕ) (x : Scenario) → i < 24 → InRange x → NearZ K21 400 (lnMedianFixed i x) (lnMedian i x)
-unfolding lnMedianFixed lnMedian
-lnMedian-near i x h r = lnMedianAt-near (coefficientsAt i) x (rockPGAFixed x) (rockPGA x) (fair-at i h) r (rock-is-near x r)
+pub lnOwn-near : (i : ℕ) (x : Scenario) → i < 24 → InRange x → NearZ K21 400 (lnOwnFixed i x) (lnOwn i x)
+unfolding lnOwnFixed lnOwn
+lnOwn-near i x h r = lnMedianAt-near (coefficientsAt i) x (rockPGAFixed x) (rockPGA x) (fair-at i h) r (rock-is-near x r)
 
-pub lnMedian-size :
-    (i : ℕ) (x : Scenario) → i < 24 → InRange x → (dn (lnMedianFixed i x) ≤ 15000000400) × (up (lnMedianFixed i x) ≤ 13000000400)
-lnMedian-size i x h r =
-    near-between 15000000000 13000000000 (lit≤ tt) (lit≤ tt) (lit≤ tt) (lnMedian-between i x h r) (lnMedian-near i x h r)
+pub lnOwn-size :
+    (i : ℕ) (x : Scenario) → i < 24 → InRange x → (dn (lnOwnFixed i x) ≤ 15000000400) × (up (lnOwnFixed i x) ≤ 13000000400)
+lnOwn-size i x h r =
+    near-between 15000000000 13000000000 (lit≤ tt) (lit≤ tt) (lit≤ tt) (lnOwn-between i x h r) (lnOwn-near i x h r)

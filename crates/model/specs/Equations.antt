@@ -3,17 +3,19 @@
 -- are thousandths of a kilometre, a coefficient of Tables 2 and 3 in thousandths: so a sum or product of these is a whole number of
 -- 10^-5 or 10^-6, and no rounding touches it. A difference `a - b` of numbers that have no sign stops at 0. Definitions only.
 use Prim.Native.Nat.{ℕ, _+_, _-_, _*_, _/_}
-use mathlib.Core.Bool.{true, false}
+use mathlib.Core.Bool.{Bool, true, false, _&&_}
+use mathlib.Core.List.{map}
 use lib.Dec.{ltb, leb, eqb}
 use lib.IntN.{ℤ, pos, negℤ, _+ℤ_, _-ℤ_, _*ℤ_}
-use lib.Signed.{shrZ}
+use lib.ListN.{getD}
+use lib.Signed.{ltZ, shrZ}
 use Rattle.exact.specs.Near.{up}
 use Rattle.exact.specs.Exact.{E30, lnE, expE, mulE, powE, rootE}
 use Rattle.request.specs.declared.Style.{Style}
 use Rattle.request.specs.declared.Style.the-variants.{StrikeSlip, Reverse, Normal}
 use Rattle.tables.specs.declared.Coefficients.{Coefficients}
 use Rattle.tables.specs.declared.Deviations.{Deviations}
-use Rattle.tables.specs.Tables.{PGA, coefficientsAt, deviationsAt}
+use Rattle.tables.specs.Tables.{PGA, periods, coefficientsAt, deviationsAt}
 use Rattle.model.specs.declared.Scenario.{Scenario}
 
 -- ---- units
@@ -161,10 +163,23 @@ unfoldable pub rockPGA : Scenario → ℕ
 unfolding lnMedianAt expE coefficientsAt
 rockPGA x = expE (lnMedianAt (coefficientsAt PGA) x 1100 0)
 
+-- of a measure by itself
+unfoldable pub lnOwn : ℕ → Scenario → ℤ
+unfolding lnMedianAt rockPGA coefficientsAt
+lnOwn i x = lnMedianAt (coefficientsAt i) x (x .vs30) (rockPGA x)
+
+-- T ≤ 0.25 s: PGA, PGV and PGD have no period
+unfoldable pub isShort : ℕ → Bool
+isShort i = getD (map (λ (t : ℕ). leb t 0_250) periods) i false
+
+-- when PSA < PGA and T ≤ 0.25 s, PSA is PGA; as logarithms
+abbrev pub notBelowPGA : ℕ → ℤ → ℤ → ℤ
+notBelowPGA i psa pga = elim (isShort i && ltZ psa pga) [ true ↦ pga | false ↦ psa ]
+
 -- of a measure
 unfoldable pub lnMedian : ℕ → Scenario → ℤ
-unfolding lnMedianAt rockPGA coefficientsAt
-lnMedian i x = lnMedianAt (coefficientsAt i) x (x .vs30) (rockPGA x)
+unfolding lnOwn isShort
+lnMedian i x = notBelowPGA i (lnOwn i x) (lnOwn PGA x)
 
 unfoldable pub median : ℕ → Scenario → ℕ
 unfolding lnMedian expE

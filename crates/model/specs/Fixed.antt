@@ -17,7 +17,7 @@ use Rattle.tables.specs.Tables.{PGA, coefficientsAt, deviationsAt}
 use Rattle.model.specs.declared.Scenario.{Scenario}
 use Rattle.model.specs.declared.Fine.{Fine}
 use Rattle.model.specs.declared.Row.{Row}
-use Rattle.model.specs.Equations.{byMagnitude, slope, c100, n100, linear, lnAF, least, most, fFltZ, fHngM, fHngZ, fHngDip}
+use Rattle.model.specs.Equations.{byMagnitude, slope, c100, n100, linear, lnAF, least, most, fFltZ, fHngM, fHngZ, fHngDip, isShort, notBelowPGA}
 
 -- ---- the terms of the median
 unfoldable pub fMagFixed : Coefficients → ℕ → ℤ
@@ -108,9 +108,10 @@ unfoldable pub rockPGAFixed : Scenario → ℕ
 unfolding lnMedianAtFixed expFixed coefficientsAt
 rockPGAFixed x = expFixed (lnMedianAtFixed (coefficientsAt PGA) x 1100 0) / 10
 
-unfoldable pub lnMedianFixed : ℕ → Scenario → ℤ
+-- of a measure by itself
+unfoldable pub lnOwnFixed : ℕ → Scenario → ℤ
 unfolding lnMedianAtFixed rockPGAFixed coefficientsAt
-lnMedianFixed i x = lnMedianAtFixed (coefficientsAt i) x (x .vs30) (rockPGAFixed x)
+lnOwnFixed i x = lnMedianAtFixed (coefficientsAt i) x (x .vs30) (rockPGAFixed x)
 
 -- ---- the variances
 -- a deviation of Table 3 squared
@@ -150,18 +151,35 @@ unfolding intraVarianceFixed alphaFixed rockPGAFixed coefficientsAt deviationsAt
 varianceFixed i x = up (intraVarianceFixed (deviationsAt i) (alphaFixed (coefficientsAt i) (x .vs30) (rockPGAFixed x)))
 
 -- ---- a measure before it is rounded
-unfoldable pub fineFixed : ℕ → Scenario → Fine
-unfolding lnMedianFixed varianceFixed deviationsAt
-fineFixed i x =
+-- by itself
+unfoldable pub ownFixed : ℕ → Scenario → Fine
+unfolding lnOwnFixed varianceFixed deviationsAt
+ownFixed i x =
     let v : ℕ = varianceFixed i x in
     let d : Deviations = deviationsAt i in
     record {
-      ln = lnMedianFixed i x;
+      ln = lnOwnFixed i x;
       intra = v;
       t = d .t;
       total = v + squaredFixed (d .t);
       arbitrary = v + squaredFixed (d .t) + squaredFixed (d .sC);
     }
+
+-- a row whose ln median is not below PGA's, with its own variances
+unfoldable pub raised : ℕ → Fine → Fine → Fine
+unfolding isShort
+raised i own pga =
+    record {
+      ln = notBelowPGA i (own .ln) (pga .ln);
+      intra = own .intra;
+      t = own .t;
+      total = own .total;
+      arbitrary = own .arbitrary;
+    }
+
+unfoldable pub fineFixed : ℕ → Scenario → Fine
+unfolding raised ownFixed
+fineFixed i x = raised i (ownFixed i x) (ownFixed PGA x)
 
 -- how large the fine row of an accepted request is: ln median from -15 to 13 and 400 units, a variance at most 2.4
 pub record FineInRange (f : Fine) : Type 0 where

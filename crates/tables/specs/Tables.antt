@@ -16,6 +16,12 @@ measures = 24
 abbrev pub PGA : ℕ
 PGA = 21
 
+-- T, the periods of measures 0 to 20 in seconds
+abbrev pub periods : List ℕ
+periods =
+    0_010 ∷ 0_020 ∷ 0_030 ∷ 0_050 ∷ 0_075 ∷ 0_100 ∷ 0_150 ∷ 0_200 ∷ 0_250 ∷ 0_300 ∷ 0_400 ∷ 0_500 ∷ 0_750 ∷ 1_000 ∷ 1_500 ∷ 2_000 ∷ 3_000
+    ∷ 4_000 ∷ 5_000 ∷ 7_500 ∷ 10_000 ∷ []
+
 -- a number printed with a minus sign
 abbrev pub neg : ℕ → ℤ
 neg zero = pos 0
