@@ -5,6 +5,8 @@ use factors::Factors;
 use factors::factors_of;
 use model::Fine;
 use model::Scenario;
+use short_periods::is_short;
+use short_periods::not_below_pga;
 use sigmas::Settled;
 use sigmas::all_settled;
 use sigmas::intra_variance;
@@ -30,7 +32,7 @@ ghost use lib.ListN.{length, getD};
 ghost use Rattle.tables.specs.Tables.{measures};
 ghost use Rattle.tables.specs.OfTables.{OfTable2};
 ghost use Rattle.model.specs.Accuracy.{InRange};
-ghost use Rattle.model.specs.Fixed.{lnMedianFixed, fineFixed, noFine};
+ghost use Rattle.model.specs.Fixed.{lnOwnFixed, ownFixed, fineFixed, noFine};
 ghost use Rattle.factors.specs.Factoring.{factorsOf};
 ghost use Rattle.terms.specs.Paths.{pathOf};
 ghost use Rattle.site.specs.Sharing.{rockOf, soilOf};
@@ -44,21 +46,21 @@ pub struct Measure {
     pub settled: Settled,
 }
 
-// The ln median of a measure, in units of 10^-9.
-fn ln_median(m: Measure, x: Scenario, f: Factors, path: Path, soil: Soil) -> i64
+// The ln median of a measure by itself, in units of 10^-9.
+fn ln_own(m: Measure, x: Scenario, f: Factors, path: Path, soil: Soil) -> i64
     requires { ⌜ OfMeasure m × InRange x × (f ≡ factorsOf x) × (path ≡ pathOf (m .c .c6) x) × (soil ≡ soilOf (m .c .k1) x) ⌝ }
-    ensures { λ r. ⌜ r ≡ lnMedianFixed (m .number) x ⌝ }
+    ensures { λ r. ⌜ r ≡ lnOwnFixed (m .number) x ⌝ }
 {
     let c = m.c;
     ln_sum(c, x, f, path, f_site(c, x, soil))
 }
 
-// The fine row of a measure, from what is worked out once for a request, a c6 and a k1.
-fn fine_from(m: Measure, x: Scenario, f: Factors, path: Path, soil: Soil) -> Fine
+// The fine row of a measure by itself, from what is worked out once for a request, a c6 and a k1.
+fn own_from(m: Measure, x: Scenario, f: Factors, path: Path, soil: Soil) -> Fine
     requires { ⌜ OfMeasure m × InRange x × (f ≡ factorsOf x) × (path ≡ pathOf (m .c .c6) x) × (soil ≡ soilOf (m .c .k1) x) ⌝ }
-    ensures { λ r. ⌜ r ≡ fineFixed (m .number) x ⌝ }
+    ensures { λ r. ⌜ r ≡ ownFixed (m .number) x ⌝ }
 {
-    let l = ln_median(m, x, f, path, soil);
+    let l = ln_own(m, x, f, path, soil);
     let c = m.c;
     let d = m.d;
     let settled = m.settled;
@@ -96,7 +98,8 @@ fn next_soil(last: Soil, c: Coefficients, x: Scenario, rock: Rock) -> Soil
     soil_of(c, x, rock)
 }
 
-// The fine row of one measure. PGA's path comes first, since A1100 needs it.
+// The fine row of one measure. PGA's path comes first, since A1100 needs it; PGA's own row last, where the
+// period is short.
 pub fn fine_at(i: usize, x: Scenario) -> Fine
     requires { ⌜ (i < measures) × InRange x ⌝ }
     ensures { λ r. ⌜ r ≡ fineFixed i x ⌝ }
@@ -104,7 +107,7 @@ pub fn fine_at(i: usize, x: Scenario) -> Fine
     let table2 = all_coefficients();
     let table3 = all_deviations();
     let settled = all_settled();
-    let pga = table2[PGA];
+    let c0 = table2[PGA];
     let c = table2[i];
     let d = table3[i];
     let known = settled[i];
@@ -115,9 +118,21 @@ pub fn fine_at(i: usize, x: Scenario) -> Fine
         settled: known,
     };
     let f = factors_of(x);
-    let path = path_of(pga, x);
-    let rock = rock_of(pga, x, f, path);
-    fine_from(m, x, f, next_path(path, c, x), soil_of(c, x, rock))
+    let path = path_of(c0, x);
+    let rock = rock_of(c0, x, f, path);
+    let own = own_from(m, x, f, next_path(path, c, x), soil_of(c, x, rock));
+    if !is_short(i) {
+        return own;
+    }
+    let d0 = table3[PGA];
+    let known0 = settled[PGA];
+    let m0 = Measure {
+        number: PGA,
+        c: c0,
+        d: d0,
+        settled: known0,
+    };
+    not_below_pga(i, own, own_from(m0, x, f, path, soil_of(c0, x, rock)))
 }
 
 // The fine rows of all measures. PGA's comes first, likewise; from there on measures that are alike in c6
@@ -140,7 +155,7 @@ pub fn fine_rows_of(x: Scenario) -> [Fine; MEASURES]
     let c0 = table2[PGA];
     let d0 = table3[PGA];
     let known0 = settled[PGA];
-    let pga = Measure {
+    let m0 = Measure {
         number: PGA,
         c: c0,
         d: d0,
@@ -150,7 +165,8 @@ pub fn fine_rows_of(x: Scenario) -> [Fine; MEASURES]
     let mut path = path_of(c0, x);
     let rock = rock_of(c0, x, f, path);
     let mut soil = soil_of(c0, x, rock);
-    rows[PGA] = fine_from(pga, x, f, path, soil);
+    let pga = own_from(m0, x, f, path, soil);
+    rows[PGA] = pga;
     let mut k = 0usize;
     while k < MEASURES {
         if k != PGA {
@@ -165,7 +181,7 @@ pub fn fine_rows_of(x: Scenario) -> [Fine; MEASURES]
             };
             path = next_path(path, c, x);
             soil = next_soil(soil, c, x, rock);
-            rows[k] = fine_from(m, x, f, path, soil);
+            rows[k] = not_below_pga(k, own_from(m, x, f, path, soil), pga);
         }
         k += 1;
     }

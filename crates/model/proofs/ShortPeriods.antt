@@ -2,7 +2,7 @@
 -- measure by itself are those of a measure. What is reported does not fall as ln median grows, so no reported median of a short period
 -- is below PGA's either. Assumes nothing.
 use Prim.Native.Nat.{ℕ, zero, suc, _+_, _*_, _≤_, _<_, zero-le, suc-le-suc}
-use mathlib.Core.Path.{_≡_, refl, sym, subst, _∙_}
+use mathlib.Core.Path.{_≡_, refl, sym, ap₂, subst, _∙_}
 use mathlib.Core.Bool.{Bool, true, false, _&&_}
 use mathlib.Core.List.{_++_}
 use native.Mathlib.Omega.{arith}
@@ -19,6 +19,7 @@ use Rattle.fixed.specs.Fixed.{K21, nearest, expFixed}
 use Rattle.fixed.proofs.Growing.{expFixed-mono, nearest-mono}
 use Rattle.tables.specs.Tables.{PGA}
 use Rattle.model.specs.declared.Scenario.{Scenario}
+use Rattle.model.specs.declared.Fine.{Fine}
 use Rattle.model.specs.Equations.{most, isShort, notBelowPGA, lnOwn, lnMedian}
 use Rattle.model.specs.Accuracy.{InRange}
 use Rattle.model.specs.FineNear.{Between, minusFifteen}
@@ -59,11 +60,6 @@ not-below i a b s = rw s (go (ltZ a b) refl)
     go : (t : Bool) → ltZ a b ≡ t → up b + dn (elim t [ true ↦ b | false ↦ a ]) ≤ up (elim t [ true ↦ b | false ↦ a ]) + dn b
     go true e = le-refl (up b + dn b)
     go false e = nlt-parts a b e
-
--- PGA, which has no period, is itself
-pub pga-itself : (a b : ℤ) → notBelowPGA PGA a b ≡ a
-unfolding isShort
-pga-itself a b = refl
 
 -- as near as both are
 pub not-below-near : (i K e : ℕ) (a b c d : ℤ) → NearZ K e a c → NearZ K e b d → NearZ K e (notBelowPGA i a b) (notBelowPGA i c d)
@@ -106,6 +102,27 @@ module _ (i : ℕ) (x : Scenario) (h : i < 24) (r : InRange x) where
       not-below-by (λ (z : ℤ). (dn z ≤ 15000000400) × (up z ≤ 13000000400)) i (lnOwnFixed i x) (lnOwnFixed PGA x)
       (lnOwn-size i x h r)
       (lnOwn-size PGA x (lit< tt) r)
+
+-- ---- a fine row
+-- that of a longer period is its own
+pub raised-long : (i : ℕ) (own pga : Fine) → isShort i ≡ false → raised i own pga ≡ own
+unfolding raised
+raised-long i own pga s = rw s
+
+pub fine-long : (i : ℕ) (x : Scenario) {own : Fine} → isShort i ≡ false → own ≡ ownFixed i x → own ≡ fineFixed i x
+unfolding fineFixed
+fine-long i x s e = e ∙ sym (raised-long i (ownFixed i x) (ownFixed PGA x) s)
+
+-- and so is PGA's, which has no period
+pub fine-pga : (x : Scenario) {own : Fine} → own ≡ ownFixed PGA x → own ≡ fineFixed PGA x
+unfolding isShort
+fine-pga x e = fine-long PGA x refl e
+
+-- any, from its own and PGA's
+pub fine-raised :
+    (i : ℕ) (x : Scenario) {own pga : Fine} → own ≡ ownFixed i x → pga ≡ ownFixed PGA x → raised i own pga ≡ fineFixed i x
+unfolding fineFixed
+fine-raised i x e p = ap₂ (raised i) e p
 
 -- ---- what is reported
 most-mono : (n a b : ℕ) → a ≤ b → most n a ≤ most n b

@@ -2,7 +2,7 @@
 -- nothing.
 use borrow.Author.Needs.{needs}
 use Prim.Native.Nat.{ℕ, _+_, _-_, _≤_, _<_}
-use mathlib.Core.Path.{_≡_, refl, sym, subst}
+use mathlib.Core.Path.{_≡_, refl, sym, subst, _∙_}
 use mathlib.Core.List.{List}
 use mathlib.Core.Logic.{⊎-elim}
 use native.Mathlib.Omega.{arith}
@@ -12,6 +12,7 @@ use Rattle.model.specs.declared.Fine.{Fine}
 use Rattle.site.specs.declared.Soil.{Soil}
 use Rattle.terms.specs.declared.Path.{Path}
 use Rattle.tables.specs.Tables.{PGA}
+use Rattle.model.proofs.ShortPeriods.{fine-pga, fine-raised}
 use Rattle.terms.specs.Paths.{pathOf}
 use Rattle.site.specs.Sharing.{soilOf}
 use Rattle.measures.proofs.FilledRows.{Filled, set-filled, pass-filled, path-again, soil-again}
@@ -36,10 +37,10 @@ same-turn x k {rows} {rows'} {path} {path'} {soil} {soil'} e f g t =
     (subst (λ (p : Path). Turn x rows' p soil k) (sym f) (subst (λ (s : Soil). Turn x rows' path' s k) (sym g) t))
 
 abbrev Inv-loop : tie.InvT-loop
-Inv-loop x rows₀ table2 table3 settled f path₀ rock soil₀ k₀ rows path soil k = Turn x rows path soil k
+Inv-loop x rows₀ table2 table3 settled f path₀ rock soil₀ pga k₀ rows path soil k = Turn x rows path soil k
 
 abbrev μ-loop : tie.MeasureT-loop
-μ-loop x rows₀ table2 table3 settled f path₀ rock soil₀ k₀ rows path soil k = 24 - k
+μ-loop x rows₀ table2 table3 settled f path₀ rock soil₀ pga k₀ rows path soil k = 24 - k
 
 -- ---- before the loop
 all-coefficients-requires : tie.Need-all-coefficients-requires Inv-loop μ-loop
@@ -83,8 +84,8 @@ soil-of-requires c κs =
     let t = c .before .before .before .before .before .before .before .before in
     (of-row PGA _ (lit< tt) (read-2 PGA (t .all-coefficients .ensures)), t .before .pre, c .rock-of .ensures)
 
-fine-from-requires : tie.Need-fine-from-requires Inv-loop μ-loop
-fine-from-requires c κs =
+own-from-requires : tie.Need-own-from-requires Inv-loop μ-loop
+own-from-requires c κs =
     let p = c .before .before in
     let f = p .before in
     let k = f .before .before .before .before in
@@ -105,7 +106,7 @@ loop-holds : tie.Need-loop-holds Inv-loop μ-loop
 loop-holds c =
     let x = c .before .before .before .before .before .before .before .before .before .before .before .args .x in
     record {
-      filled = record { whole = refl; pga = c .fine-from .ensures; below = λ j l. absurd (omega (arith, l)) };
+      filled = record { whole = refl; pga = fine-pga x (c .own-from .ensures); below = λ j l. absurd (omega (arith, l)) };
       path-is = path-again x _ _ (c .before .before .before .path-of .ensures);
       soil-is = soil-again x _ _ (c .before .soil-of .ensures);
       end = omega arith;
@@ -153,8 +154,8 @@ next-soil-requires c κs =
       l .before .loop .inv .soil-is,
     )
 
-fine-from-requires-2 : tie.Need-fine-from-requires-2 Inv-loop μ-loop
-fine-from-requires-2 c κs =
+own-from-requires-2 : tie.Need-own-from-requires-2 Inv-loop μ-loop
+own-from-requires-2 c κs =
     let l = c .before .before .before .before .before .before in
     let k = l .before .loop .k in
     let f = l .before .before .before .before .before .before in
@@ -169,11 +170,14 @@ fine-from-requires-2 c κs =
       c .next-soil .ensures,
     )
 
+not-below-pga-requires : tie.Need-not-below-pga-requires Inv-loop μ-loop
+not-below-pga-requires c κs = search needs
+
 mul-rows : tie.Need-mul-rows Inv-loop μ-loop
 mul-rows c = search needs
 
 array-set-from-rows-2 : tie.Need-array-set-from-rows-2 Inv-loop μ-loop
-array-set-from-rows-2 c = c .before .before .before .before .before .before .before .loop-test .taken
+array-set-from-rows-2 c = c .before .before .before .before .before .before .before .before .loop-test .taken
 
 add-k : tie.Need-add-k Inv-loop μ-loop
 add-k c = search needs
@@ -185,13 +189,17 @@ loop-again : tie.Need-loop-again Inv-loop μ-loop
 loop-again c =
     let t = c .before in
     let l = t .before in
-    let x = l .before .before .before .before .before .before .before .before .before .before .before .before .args .x in
+    let p = l .before in
+    let x = p .before .before .before .before .before .before .before .before .before .before .before .args .x in
     let k = l .loop .k in
     ⊎-elim
     (λ w.
-    same-turn x (k + 1) (w .7) (w .8) (w .9)
+    same-turn x (k + 1) (w .8) (w .9) (w .10)
     (record {
-      filled = set-filled x (l .loop .rows) k _ (t .loop-test .taken) (w .0 .taken) (w .6 .ensures) (l .loop .inv .filled);
+      filled =
+          set-filled x (l .loop .rows) k _ (t .loop-test .taken) (w .0 .taken)
+          (w .7 .ensures ∙ fine-raised k x (w .6 .ensures) (p .own-from .ensures))
+          (l .loop .inv .filled);
       path-is = path-again x _ _ (w .4 .ensures);
       soil-is = soil-again x _ _ (w .5 .ensures);
       end = omega (arith, t .loop-test .taken);
@@ -227,7 +235,7 @@ fine-rows-of-spec =
     path-of-requires
     rock-of-requires
     soil-of-requires
-    fine-from-requires
+    own-from-requires
     array-set-from-rows
     loop-holds
     mul-c
@@ -238,7 +246,8 @@ fine-rows-of-spec =
     array-copy-out-known
     next-path-requires
     next-soil-requires
-    fine-from-requires-2
+    own-from-requires-2
+    not-below-pga-requires
     mul-rows
     array-set-from-rows-2
     add-k

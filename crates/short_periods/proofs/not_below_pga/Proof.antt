@@ -12,6 +12,7 @@ use Rattle.exact.proofs.Signed.{lt-read}
 use Rattle.model.specs.declared.Fine.{Fine}
 use Rattle.model.specs.Equations.{isShort}
 use Rattle.model.specs.Fixed.{raised}
+use Rattle.model.proofs.ShortPeriods.{raised-long}
 use Rattle.short_periods.proofs.not_below_pga.Statement.{statement}
 use Rattle.short_periods.proofs.not_below_pga.Tie as tie
 
@@ -26,10 +27,6 @@ at-pga i own pga s l = rw (s, l)
 above-pga : (i : ℕ) (own pga : Fine) → isShort i ≡ true → ltZ (own .ln) (pga .ln) ≡ false → raised i own pga ≡ own
 unfolding raised
 above-pga i own pga s l = rw (s, l)
-
-no-short : (i : ℕ) (own pga : Fine) → isShort i ≡ false → raised i own pga ≡ own
-unfolding raised
-no-short i own pga s = rw s
 
 -- ---- the function
 is-short-requires : tie.Need-is-short-requires
@@ -63,7 +60,7 @@ returns-2 c =
     (λ w. above-pga (s .args .i) (s .args .own) (s .args .pga) (short-is (c .before) true (w .0 .taken))
     (lt-read {a = s .args .own .ln} {b = s .args .pga .ln} (record { sfits = w .2 .given .0 .1 }) (record { sfits = w .4 .given .0 .1 })
     (w .5 .left)))
-    (λ w. no-short (s .args .i) (s .args .own) (s .args .pga) (short-is (c .before) false (w .left)))
+    (λ w. raised-long (s .args .i) (s .args .own) (s .args .pga) (short-is (c .before) false (w .left)))
     (c .if1 .came))
 
 pub not-below-pga-spec : {M : Type 1} → statement M

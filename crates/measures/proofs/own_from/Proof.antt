@@ -15,14 +15,14 @@ use Rattle.tables.specs.declared.Deviations.{Deviations}
 use Rattle.tables.specs.Tables.{coefficientsAt, deviationsAt}
 use Rattle.model.specs.declared.Scenario.{Scenario}
 use Rattle.model.specs.Accuracy.{InRange}
-use Rattle.model.specs.Fixed.{squaredFixed, alphaFixed, intraVarianceFixed, lnMedianFixed, rockPGAFixed, varianceFixed, fineFixed}
+use Rattle.model.specs.Fixed.{squaredFixed, alphaFixed, intraVarianceFixed, lnOwnFixed, rockPGAFixed, varianceFixed, ownFixed}
 use Rattle.model.proofs.Fair.{fair-at, spread-at}
-use Rattle.model.proofs.Median.{rock-is-near, lnMedian-size}
+use Rattle.model.proofs.Median.{rock-is-near, lnOwn-size}
 use Rattle.model.proofs.Sizes.{alpha-size}
 use Rattle.model.proofs.Demand.{variance-size}
 use Rattle.measures.proofs.MeasureRead.{c-is, d-is, cross-is, of-table-2, of-table-3}
-use Rattle.measures.proofs.fine_from.Statement.{statement}
-use Rattle.measures.proofs.fine_from.Tie as tie
+use Rattle.measures.proofs.own_from.Statement.{statement}
+use Rattle.measures.proofs.own_from.Tie as tie
 
 -- alpha of a measure
 abbrev alphaAt : ℕ → Scenario → ℤ
@@ -36,13 +36,13 @@ record Steps (i : ℕ) (x : Scenario) : Type 0 where
   t2 : squaredFixed (deviationsAt i .t) ≤ 250000000
   sC2 : squaredFixed (deviationsAt i .sC) ≤ 90000000
   variance-high : varianceFixed i x ≤ 2000000287
-  ln-fits : SFits w64 (lnMedianFixed i x)
+  ln-fits : SFits w64 (lnOwnFixed i x)
 
 steps : (i : ℕ) (x : Scenario) → i < 24 → InRange x → Steps i x
 steps i x h r =
     let d = spread-at i h in
     let a = alpha-size (coefficientsAt i) (x .vs30) _ _ (fair-at i h) (r .vs30-low) (r .vs30-high) (rock-is-near x r) in
-    let z = lnMedian-size i x h r in
+    let z = lnOwn-size i x h r in
     record {
       alpha-small = a;
       alpha-fits = sfits-abs _ (omega (arith, a));
@@ -57,8 +57,8 @@ steps i x h r =
 at : (c : tie.Start) → Steps (c .args .m .number) (c .args .x)
 at c = steps (c .args .m .number) (c .args .x) (c .pre .0 .below) (c .pre .1)
 
-ln-median-requires : tie.Need-ln-median-requires
-ln-median-requires c κs = search needs
+ln-own-requires : tie.Need-ln-own-requires
+ln-own-requires c κs = search needs
 
 alpha-of-requires : tie.Need-alpha-of-requires
 alpha-of-requires c κs =
@@ -127,19 +127,19 @@ add-arbitrary c =
     record { fits = omega (arith, sC2-is c, t2-is t, intra-is v, f .t2, f .sC2, f .variance-high) }
 
 returns : tie.Need-returns
-unfolding fineFixed
+unfolding ownFixed
 returns c =
     let t = c .before in
     let v = t .before in
     let s = start (v .before) in
     let l = v .before .before .before .before .before in
-    simp (l .ln-median .ensures, toZ-ofZ (at s .ln-fits), intra-is v, t2-is t, sC2-is c, t-is s)
+    simp (l .ln-own .ensures, toZ-ofZ (at s .ln-fits), intra-is v, t2-is t, sC2-is c, t-is s)
 
-pub fine-from-spec : {M : Type 1} → statement M
-fine-from-spec =
+pub own-from-spec : {M : Type 1} → statement M
+own-from-spec =
     tie.close
     (tie.spec
-    ln-median-requires
+    ln-own-requires
     alpha-of-requires
     intra-variance-requires
     squared-requires
