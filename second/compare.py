@@ -15,7 +15,8 @@ path is given. Exit 1 on any difference beyond its bound:
   whole metre that the figure's bound allows, and the first program must have answered as one of these;
 - ln median and the sigmas: 5 millionths, --tight 1; the median: 1 + Y/100000, --tight 1 + Y/500000; from the second program's figure
   before it is rounded, at the figures that the first completed. The predicting program prints ln median, median and total sigma;
-  --rows names a program that prints all six figures of a row, as c/rows.c does with the static library.
+  --rows names a program that prints all six figures of a row, as c/rows.c does with the static library. It is told how many medians
+  of each short period are PGA's, their own being lower; a long list must have some of each, with and without the others.
 """
 import argparse
 import collections
@@ -24,7 +25,7 @@ import re
 import sys
 
 from programs import HEADER, ROOT, build, command, listed, run
-from random_requests import NAMES, STARRED, refused_lists, requests
+from random_requests import LONG, NAMES, STARRED, refused_lists, requests
 
 METRES = 2
 # How far an estimate may lie below and above the second program's figure, in m: by document 01; and --tight, as the programs round it.
@@ -38,6 +39,8 @@ COLUMNS = ["dip", "w", "ztor", "rrup", "z25"]
 ROW = ["ln median", "median", "intra sigma", "inter sigma", "total sigma", "arbitrary sigma"]
 PRINTED = ["ln median", "median", "total sigma"]
 MEASURES = 24
+# Of the nine periods up to 0.25 s the first has PGA's own coefficients and never falls below it.
+FALLING = range(1, 9)
 SHOWN = 10
 
 Answer = collections.namedtuple("Answer", "refusal figures letters exact")
@@ -96,6 +99,12 @@ def answers(words, data, report):
 def asked(words, requested, report):
     """The answers to some requests, each a dict of fields."""
     return [answer(line) for line in answers(words, listed(line_of(fields) for fields in requested), report)]
+
+
+def at_completed(lines, completed):
+    """The accepted requests with all completed figures given, as a list."""
+    accepted = ((fields_of(line), p.figures) for line, p in zip(lines, completed) if p and p.refusal == 0)
+    return listed(line_of(at_figures(fields, figures, COLUMNS)) for fields, figures in accepted)
 
 
 def line_of(fields):
@@ -231,10 +240,10 @@ class Comparison:
     def predicting(self, words, names, data, lines, completed, bounds):
         """Compares predictions, with the figures named, at the figures that the first program completed."""
         report = self.report
-        given = [at_figures(fields_of(line), p.figures, COLUMNS) for line, p in zip(lines, completed) if p and p.refusal == 0]
-        second = run([self.second, "fine"], listed(map(line_of, given))).split(b"\n")
+        given = at_completed(lines, completed)
+        second = run([self.second, "fine"], given).split(b"\n")
         first = run(words, data).split(b"\n")
-        if first.pop() != b"" or second.pop() != b"" or len(second) != MEASURES * len(given):
+        if first.pop() != b"" or second.pop() != b"" or len(second) != MEASURES * given.count(b"\n"):
             report.fail(b"", "no LF at the end, or a completed request that the second program refuses")
             return
         at = theirs = 0
@@ -276,6 +285,11 @@ class Comparison:
                     self.report.fail(line, f"a median below 1 at measure {measure}")
         return True
 
+    def raised(self, lines, completed):
+        """The measures of each accepted request whose medians the second program raises to PGA's."""
+        said = run([self.second, "raised"], at_completed(lines, completed)).decode().split()
+        return [[] if line == "-" else [int(k) for k in line.split(";")] for line in said]
+
     def short_lists(self, predict):
         """Compares what the programs print for lists without an accepted line, byte for byte."""
         pairs = [(self.first, [self.second, "complete"])] + ([(predict, [self.second, "predict"])] if predict else [])
@@ -294,6 +308,17 @@ def covered(lines, completed):
         elif p:
             refusals[p.refusal] += 1
     return patterns, refusals
+
+
+def tell_raised(report, raised, long):
+    """Prints how often each measure's median is PGA's; a long list must show the rule at work, and at no other measure."""
+    count = collections.Counter(k for measures in raised for k in measures)
+    some = sum(0 < len(measures) < len(FALLING) for measures in raised)
+    whole = sum(len(measures) == len(FALLING) for measures in raised)
+    print("medians raised to PGA's, by measure: " + ", ".join(f"{k} in {count[k]} requests" for k in FALLING))
+    print(f"{whole} requests have all {len(FALLING)} raised, {some} have some, {len(raised) - whole - some} none")
+    if set(count) - set(FALLING) or long and not (some and whole and all(count[k] for k in FALLING)):
+        report.fail(b"", "the list does not show each short period below PGA, or another measure is raised")
 
 
 def tell(report, accepted, predicted):
@@ -343,6 +368,8 @@ def main():
     print("refused: " + ", ".join(f"{n} by {number}" for number, n in sorted(refusals.items())))
     if given.count >= 20000 and (len(patterns) < 256 or len(refusals) < 14):
         report.fail(b"", "the list leaves out a pattern or a refusal")
+    if completed and predict:
+        tell_raised(report, comparison.raised(lines, completed), given.count >= LONG)
     tell(report, accepted, ROW if given.rows else PRINTED if predict else [])
     sys.exit(1 if report.failures else 0)
 

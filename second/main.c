@@ -4,6 +4,7 @@
        second predict     document 01's predicting program
        second rows        as predict, with all six figures of a row: ln median, median, intra, inter, total, arbitrary
        second fine        as rows, each figure in thousandths of its reported unit
+       second raised      the measures whose median is PGA's, since their own is lower, with a semicolon between; - for none
        second figures     as complete, what was estimated untested (see request.c), with W, ZTOR, RRUP and Z2.5 in mm behind it */
 #include <math.h>
 #include <stdio.h>
@@ -84,6 +85,17 @@ static void answer_fine(const struct request *request) {
     }
 }
 
+/* The line of `raised`. */
+static void answer_raised(const struct request *request) {
+    struct prediction spectrum[MEASURES];
+    int count = spectrum_of(request, spectrum), found = 0;
+    for (int k = 0; k < count; k++)
+        if (spectrum[k].raised)
+            printf(found++ ? ";%d" : "%d", k);
+    if (count)
+        puts(found ? "" : "-");
+}
+
 /* The answer to one line without its LF. */
 static void answer_line(const char *bytes, size_t size, answer *to) {
     struct request request;
@@ -118,10 +130,11 @@ int main(int count, char **words) {
         : strcmp(command, "predict") == 0         ? answer_predict
         : strcmp(command, "rows") == 0            ? answer_rows
         : strcmp(command, "fine") == 0            ? answer_fine
+        : strcmp(command, "raised") == 0          ? answer_raised
         : strcmp(command, "figures") == 0         ? answer_figures
                                                   : NULL;
     if (to == NULL) {
-        fputs("second complete|predict|rows|fine|figures\n", stderr);
+        fputs("second complete|predict|rows|fine|raised|figures\n", stderr);
         return 2;
     }
     if (to == answer_complete || to == answer_figures)

@@ -7,6 +7,7 @@
 #define N 1.18
 #define ROCK 1100.0
 #define SIGMA_AF 0.3
+#define PERIODS 21
 
 struct coefficients {
     double c0, c1, c2, c3, c4, c5, c6, c7, c8, c9, c10, c11, c12, k1, k2, k3;
@@ -16,7 +17,12 @@ struct deviations {
     double sigma, tau, component, rho;
 };
 
-/* Table 2: the periods from 0.010 to 10.0 s, PGA, PGV, PGD. */
+/* The periods of the first measures, in s. */
+static const double PERIOD[PERIODS] = {
+    0.010, 0.020, 0.030, 0.050, 0.075, 0.10, 0.15, 0.20, 0.25, 0.30, 0.40, 0.50, 0.75, 1.0, 1.5, 2.0, 3.0, 4.0, 5.0, 7.5, 10.0,
+};
+
+/* Table 2: those periods, PGA, PGV, PGD. */
 static const struct coefficients TABLE2[MEASURES] = {
     {-1.715, 0.500, -0.530, -0.262, -2.118, 0.170, 5.60, 0.280, -0.120, 0.490, 1.058, 0.040, 0.610, 865, -1.186, 1.839},
     {-1.680, 0.500, -0.530, -0.262, -2.123, 0.170, 5.60, 0.280, -0.120, 0.490, 1.102, 0.040, 0.610, 865, -1.219, 1.840},
@@ -142,14 +148,26 @@ static double intra_squared(const struct deviations *d, double alpha) {
     return below * below + SIGMA_AF * SIGMA_AF + alpha * alpha * rock * rock + 2 * alpha * d->rho * below * rock;
 }
 
-/* One measure once A1100 is known: equations 1, 14 to 16 and 18. */
-static struct prediction predict(const struct figures *f, int measure, double a) {
+/* PGA's logarithm at the site itself. */
+static double ln_pga(const struct figures *f, double a) {
+    return ln_median(&TABLE2[MEASURE_PGA], f, f->vs30, a);
+}
+
+/* Whether a measure is a period up to 0.25 s, which 003, below equation 12, does not let fall below PGA. */
+static int is_short(int measure) {
+    return measure < PERIODS && PERIOD[measure] <= 0.25;
+}
+
+/* One measure once A1100 is known, its logarithm not below the least: equations 1, 14 to 16 and 18. */
+static struct prediction predict(const struct figures *f, int measure, double a, double least) {
     const struct coefficients *t = &TABLE2[measure];
     const struct deviations *d = &TABLE3[measure];
     struct prediction p;
     double intra2 = intra_squared(d, slope(t, f->vs30, a));
     double total2 = intra2 + d->tau * d->tau;
-    p.ln_median = ln_median(t, f, f->vs30, a);
+    double own = ln_median(t, f, f->vs30, a);
+    p.raised = own < least;
+    p.ln_median = fmax(own, least);
     p.median = exp(p.ln_median);
     p.intra = sqrt(intra2);
     p.inter = d->tau;
@@ -160,14 +178,15 @@ static struct prediction predict(const struct figures *f, int measure, double a)
 
 /* One measure, from 0 to 23. */
 struct prediction predict_one(const struct figures *f, int measure) {
-    return predict(f, measure, rock_pga(f));
+    double a = rock_pga(f);
+    return predict(f, measure, a, is_short(measure) ? ln_pga(f, a) : -INFINITY);
 }
 
-/* All 24 measures, A1100 worked out once. */
+/* All 24 measures, A1100 and PGA worked out once. */
 void predict_all(const struct figures *f, struct prediction spectrum[MEASURES]) {
-    double a = rock_pga(f);
+    double a = rock_pga(f), pga = ln_pga(f, a);
     for (int measure = 0; measure < MEASURES; measure++)
-        spectrum[measure] = predict(f, measure, a);
+        spectrum[measure] = predict(f, measure, a, is_short(measure) ? pga : -INFINITY);
 }
 
 /* The whole numbers that are reported: each to the nearest, the median at least 1. */

@@ -13,9 +13,11 @@ struct figures {
     double m, vs30, dip, ztor, rjb, rrup, z25;
 };
 
-/* One measure: the median with its logarithm, in g, cm/s or cm, and the four sigmas. */
+/* One measure: the median with its logarithm, in g, cm/s or cm, and the four sigmas; and whether the median is PGA's, since its own
+   is lower. */
 struct prediction {
     double ln_median, median, intra, inter, total, arbitrary;
+    int raised;
 };
 
 /* A prediction as it is reported: the median in 10^-10, all else in millionths. */

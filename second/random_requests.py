@@ -1,6 +1,6 @@
 #!/usr/bin/env python3
-"""Requests for the comparison. First, the same in every long list: each magnitude of each style, each Vs30, dip, azimuth and rake, and
-odd words in each field. Then random ones: every pattern of blank fields, values at and beside each branch of the rules, lines with
+"""Requests for the comparison. First, the same in every long list: each magnitude of each style, each Vs30, dip, azimuth and rake, soft
+sites near a fault, and odd words in each field. Then random ones: every pattern of blank fields, values at and beside each branch of the rules, lines with
 fields out of range, lines at a limit that a completed figure decides, and malformed lines. The same seed gives the same list.
 
     python3 second/random_requests.py SEED COUNT > list
@@ -211,6 +211,11 @@ def every():
                 least = root_up(rjb**2 + ztor**2)
                 for rrup in ("-", max(0, least - 2), max(0, least - 1), least, least + 1000):
                     yield {**whole, "m": m, "dip": 71, "ztor": ztor, "rjb": rjb, "azimuth": -90, "rrup": rrup}
+    # soft sites near a fault: short periods fall below PGA, all of them or some
+    for vs30 in range(150, 340, 10):
+        for m in (600, 650, 700, 750, 800):
+            for rrup in (1000, 3000, 10000):
+                yield {**whole, "m": m, "vs30": vs30, "dip": 45, "w": 20000, "ztor": 1000, "rjb": 0, "rrup": rrup, "z25": 10000}
     for name in NAMES:
         for word in WORDS:
             yield {**whole, name: word}

@@ -20,7 +20,12 @@ MEASURES = 24
 # What rounding to a thousandth leaves, with five millionths of our own, in millionths.
 PRINTED_SIGMA = 500 + 5
 LINEAR_SITES = [b"650 0 1100 - 10000 - 3000 4000 30 - - - 2000", b"800 90 1500 40 - - - 20 -90 - - - 0"]
-ISSUE = (b"650 0 760 - 10000 - 3000 4000 30 - - - 2000", 21, -1021505, 519476)
+# Requests whose figures were told beforehand: measures, ln median, total sigma where told.
+TOLD = [
+    (b"650 0 760 - 10000 - 3000 4000 30 - - - 2000", [21], -1021505, 519476),
+    (b"800 90 150 45 20000 - 1000 0 90 1000 - - 10000", [*range(9), 21], -604614, None),
+    (b"800 90 150 45 20000 - 1000 0 90 1000 - - 10000", [9], -536968, None),
+]
 
 
 class Group:
@@ -61,12 +66,14 @@ def spectra(words, requests):
 
 
 def medians(words, millionths, share):
-    """The medians of the program of 002: each logarithm and each median."""
-    group, given = Group("medians of the program of 002, 23 measures"), table("medians.csv")
+    """The medians of the program of 002, each logarithm and each median, with its rule on: what the rule raises is PGA's."""
+    given = table("medians.csv")
+    raised = [{int(k) for k in v["raised_by_rule"].split(";") if k != "-"} for v in given]
+    group = Group(f"medians of the program of 002, 23 measures, {sum(map(len, raised))} raised to PGA by its rule")
     names = [f"m{k}" for k in range(21)] + ["pga", "pgv"]
-    for vector, rows in zip(given, spectra(words, [v["request"].encode() for v in given])):
+    for vector, short, rows in zip(given, raised, spectra(words, [v["request"].encode() for v in given])):
         for measure, name in enumerate(names):
-            y, what = float(vector[name]), f"{vector['request']}, measure {measure}"
+            y, what = float(vector["pga" if measure in short else name]), f"{vector['request']}, measure {measure}"
             group.check(f"{what}, ln median", rows[measure][1] - 1e6 * math.log(y), millionths)
             group.check(f"{what}, median", rows[measure][2] - 1e10 * y, 1 + 1e10 * y / share)
     return group.close()
@@ -102,13 +109,15 @@ def sigmas(words, column, name):
     return group.close()
 
 
-def issue(words):
-    """The one request whose figures were told beforehand."""
-    group = Group("the request told beforehand")
-    request, measure, ln, total = ISSUE
-    row = spectra(words, [request])[0][measure]
-    group.check("ln median", row[1] - ln, 5)
-    group.check("total sigma", row[3] - total, 5)
+def told(words, millionths):
+    """The requests whose figures were told beforehand."""
+    group = Group("requests told beforehand")
+    for (request, measures, ln, total), rows in zip(TOLD, spectra(words, [request for request, *_ in TOLD])):
+        for measure in measures:
+            what = f"{request.decode()}, measure {measure}"
+            group.check(f"{what}, ln median", rows[measure][1] - ln, millionths)
+            if total is not None:
+                group.check(f"{what}, total sigma", rows[measure][3] - total, millionths)
     return group.close()
 
 
@@ -121,8 +130,9 @@ def main():
     options.add_argument("--rows")
     given = options.parse_args()
     predict, complete = command(given.predict), command(given.complete)
-    beyond = medians(predict, 1 if given.tight else 5, 500000 if given.tight else 100000)
-    beyond += printed_medians(predict) + printed_distances(complete) + sigmas(predict, 3, "total") + issue(predict)
+    millionths, share = (1, 500000) if given.tight else (5, 100000)
+    beyond = medians(predict, millionths, share)
+    beyond += printed_medians(predict) + printed_distances(complete) + sigmas(predict, 3, "total") + told(predict, millionths)
     if given.rows:
         beyond += sigmas(command(given.rows), 6, "arbitrary")
     else:
