@@ -107,7 +107,7 @@ pub fn fine_at(i: usize, x: Scenario) -> Fine
     let table2 = all_coefficients();
     let table3 = all_deviations();
     let settled = all_settled();
-    let c0 = table2[PGA];
+    let pga = table2[PGA];
     let c = table2[i];
     let d = table3[i];
     let known = settled[i];
@@ -118,8 +118,8 @@ pub fn fine_at(i: usize, x: Scenario) -> Fine
         settled: known,
     };
     let f = factors_of(x);
-    let path = path_of(c0, x);
-    let rock = rock_of(c0, x, f, path);
+    let path = path_of(pga, x);
+    let rock = rock_of(pga, x, f, path);
     let own = own_from(m, x, f, next_path(path, c, x), soil_of(c, x, rock));
     if !is_short(i) {
         return own;
@@ -128,11 +128,11 @@ pub fn fine_at(i: usize, x: Scenario) -> Fine
     let known0 = settled[PGA];
     let m0 = Measure {
         number: PGA,
-        c: c0,
+        c: pga,
         d: d0,
         settled: known0,
     };
-    not_below_pga(i, own, own_from(m0, x, f, path, soil_of(c0, x, rock)))
+    not_below_pga(i, own, own_from(m0, x, f, path, soil_of(pga, x, rock)))
 }
 
 // The fine rows of all measures. PGA's comes first, likewise; from there on measures that are alike in c6

@@ -5,6 +5,7 @@ use Prim.Native.Nat.{ℕ, zero, suc, _+_, _*_, _≤_, _<_, zero-le, suc-le-suc}
 use mathlib.Core.Path.{_≡_, refl, sym, ap₂, subst, _∙_}
 use mathlib.Core.Bool.{Bool, true, false, _&&_}
 use mathlib.Core.List.{_++_}
+use mathlib.Core.Logic.{_⊎_, inl, inr}
 use native.Mathlib.Omega.{arith}
 use native.Mathlib.Nat.{le-refl, le-trans, le-of-lt, mul-le-mul-right, add-mul}
 use lib.Dec.{T, ltb, lit<, leb·suc-suc}
@@ -15,7 +16,7 @@ use borrow.Author.Tests.{lt-ltb, le-ltb}
 use Rattle.exact.specs.Near.{up, dn, NearZ}
 use Rattle.exact.specs.Exact.{E30}
 use Rattle.exact.proofs.Signed.{lt-parts, nlt-parts, le-true}
-use Rattle.fixed.specs.Fixed.{K21, nearest, expFixed}
+use Rattle.fixed.specs.Fixed.{K21, expFixed}
 use Rattle.fixed.proofs.Growing.{expFixed-mono, nearest-mono}
 use Rattle.tables.specs.Tables.{PGA}
 use Rattle.model.specs.declared.Scenario.{Scenario}
@@ -61,6 +62,17 @@ not-below i a b s = rw s (go (ltZ a b) refl)
     go true e = le-refl (up b + dn b)
     go false e = nlt-parts a b e
 
+-- nor is it ever below the measure's own
+not-below-own : (i : ℕ) (a b : ℤ) → up a + dn (notBelowPGA i a b) ≤ up (notBelowPGA i a b) + dn a
+not-below-own i a b = go (isShort i) (ltZ a b) refl
+  where
+    go :
+        (s t : Bool) → ltZ a b ≡ t
+        → up a + dn (elim (s && t) [ true ↦ b | false ↦ a ]) ≤ up (elim (s && t) [ true ↦ b | false ↦ a ]) + dn a
+    go true true e = le-of-lt (lt-parts a b e)
+    go true false e = le-refl (up a + dn a)
+    go false t e = le-refl (up a + dn a)
+
 -- as near as both are
 pub not-below-near : (i K e : ℕ) (a b c d : ℤ) → NearZ K e a c → NearZ K e b d → NearZ K e (notBelowPGA i a b) (notBelowPGA i c d)
 not-below-near i K e a b c d n m = short (isShort i)
@@ -85,6 +97,25 @@ not-below-near i K e a b c d n m = short (isShort i)
     short false = n
 
 -- ---- the median of a measure
+ordered : (a b : ℤ) → up a + dn b ≤ up b + dn a → a ≤ℤ b
+ordered a b h = record { le = subst T (sym (le-true a b h)) tt }
+
+-- at a short period the larger of its own and PGA's
+pub median-larger :
+    (i : ℕ) (x : Scenario) → isShort i ≡ true
+    → (lnOwn i x ≤ℤ lnMedian i x) × (lnOwn PGA x ≤ℤ lnMedian i x) × ((lnMedian i x ≡ lnOwn i x) ⊎ (lnMedian i x ≡ lnOwn PGA x))
+unfolding lnMedian
+median-larger i x s = (
+  ordered (lnOwn i x) (lnMedian i x) (not-below-own i (lnOwn i x) (lnOwn PGA x)),
+  ordered (lnOwn PGA x) (lnMedian i x) (not-below i (lnOwn i x) (lnOwn PGA x) s),
+  not-below-by (λ (z : ℤ). (z ≡ lnOwn i x) ⊎ (z ≡ lnOwn PGA x)) i (lnOwn i x) (lnOwn PGA x) (inl refl) (inr refl),
+)
+
+-- elsewhere its own
+pub median-itself : (i : ℕ) (x : Scenario) → isShort i ≡ false → lnMedian i x ≡ lnOwn i x
+unfolding lnMedian
+median-itself i x s = rw s
+
 module _ (i : ℕ) (x : Scenario) (h : i < 24) (r : InRange x) where
   pub lnMedian-near : NearZ K21 400 (notBelowPGA i (lnOwnFixed i x) (lnOwnFixed PGA x)) (lnMedian i x)
   unfolding lnMedian
@@ -130,14 +161,18 @@ most-mono n a b h =
     most-by (λ (t : ℕ). t ≤ most n b) n a (λ k. most-by (λ (t : ℕ). n ≤ t) n b (λ j. le-refl n) (λ j. j))
     (λ k. most-by (λ (t : ℕ). a ≤ t) n b (λ j. le-trans h j) (λ j. h))
 
+-- it does not fall as ln median grows
+report-mono :
+    (f g : Fine) → up (f .ln) + dn (g .ln) ≤ up (g .ln) + dn (f .ln)
+    → (report f .ln ≤ℤ report g .ln) × (report f .median ≤ report g .median)
+unfolding report
+report-mono f g h = (
+  ordered (report f .ln) (report g .ln) (nearest-mono _ (f .ln) (g .ln) h),
+  most-mono 1 (expFixed (f .ln)) (expFixed (g .ln)) (expFixed-mono (f .ln) (g .ln) h),
+)
+
 pub row-not-below :
     (i : ℕ) (x : Scenario) → isShort i ≡ true
     → (rowFixed PGA x .ln ≤ℤ rowFixed i x .ln) × (rowFixed PGA x .median ≤ rowFixed i x .median)
-unfolding rowFixed report fineFixed raised
-row-not-below i x s =
-    let pga : ℤ = lnOwnFixed PGA x in
-    let z : ℤ = notBelowPGA i (lnOwnFixed i x) pga in
-    let h = not-below i (lnOwnFixed i x) pga s in (
-      record { le = subst T (sym (le-true (nearest pga 1000) (nearest z 1000) (nearest-mono 1000 pga z h))) tt },
-      most-mono 1 (expFixed pga) (expFixed z) (expFixed-mono pga z h),
-    )
+unfolding rowFixed fineFixed raised
+row-not-below i x s = report-mono (fineFixed PGA x) (fineFixed i x) (not-below i (ownFixed i x .ln) (ownFixed PGA x .ln) s)

@@ -1,6 +1,7 @@
 pub mod Completed
 pub mod RowLaws
 pub mod DemandThree
+pub mod ShortPeriods
 pub mod FloatLaws
 pub mod MeasureLaws
 pub mod OneAnswer

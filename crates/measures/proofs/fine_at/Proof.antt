@@ -21,8 +21,8 @@ all-deviations-requires c κs = search needs
 all-settled-requires : tie.Need-all-settled-requires
 all-settled-requires c κs = search needs
 
-array-copy-out-c0 : tie.Need-array-copy-out-c0
-array-copy-out-c0 c = search needs
+array-copy-out-pga : tie.Need-array-copy-out-pga
+array-copy-out-pga c = search needs
 
 mul-c : tie.Need-mul-c
 mul-c c = search needs
@@ -152,7 +152,7 @@ fine-at-spec =
     all-coefficients-requires
     all-deviations-requires
     all-settled-requires
-    array-copy-out-c0
+    array-copy-out-pga
     mul-c
     array-copy-out-c
     mul-d
