@@ -7,7 +7,6 @@
 #define N 1.18
 #define ROCK 1100.0
 #define SIGMA_AF 0.3
-#define PERIODS 21
 
 struct coefficients {
     double c0, c1, c2, c3, c4, c5, c6, c7, c8, c9, c10, c11, c12, k1, k2, k3;
@@ -18,9 +17,10 @@ struct deviations {
 };
 
 /* The periods of the first measures, in s. */
-static const double PERIOD[PERIODS] = {
+static const double PERIOD[] = {
     0.010, 0.020, 0.030, 0.050, 0.075, 0.10, 0.15, 0.20, 0.25, 0.30, 0.40, 0.50, 0.75, 1.0, 1.5, 2.0, 3.0, 4.0, 5.0, 7.5, 10.0,
 };
+#define PERIODS (int)(sizeof PERIOD / sizeof PERIOD[0])
 
 /* Table 2: those periods, PGA, PGV, PGD. */
 static const struct coefficients TABLE2[MEASURES] = {

@@ -15,7 +15,7 @@ def second():
     """The periods, as one row, and the rows of both tables in second/model.c."""
     with open(os.path.join(HERE, "model.c")) as text:
         source = text.read()
-    tables = [[re.findall(r"[\d.]+", source.split("PERIOD[PERIODS] = {")[1].split("}")[0])]]
+    tables = [[re.findall(r"[\d.]+", source.split("PERIOD[] = {")[1].split("}")[0])]]
     for name in ("TABLE2", "TABLE3"):
         body = source[source.index(f"{name}[MEASURES] = {{"):]
         body = body[:body.index("};")]

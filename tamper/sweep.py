@@ -7,14 +7,15 @@ What it tries:
 
 - code: Tables 2 and 3, what follows from Table 3, the refusals' numbers and limits, the styles (crates tables, sigmas, refusals,
   request, source_stage, path_stage, site_stage), the constants of the estimates and of the rupture distance (estimate, rupture), the
-  terms, the site, the sigmas and the report (factors, terms, site, sigmas, reports), the 64-bit functions (reckon), the text form
-  (text, numerals). A contract's numbers are claims and no code: they are not altered;
+  terms, the site, the sigmas, the short periods and the report (factors, terms, site, sigmas, short_periods, reports), the 64-bit
+  functions (reckon), the text form (text, numerals). A contract's numbers are claims and no code: they are not altered;
 - specs: every number of crates/*/specs but those of the table LEFT; one that neither a place nor LEFT names stops the script.
   --left tells which are left and why;
 - second: the constants, limits and tables of the second program, model.c and request.c with their headers.
 
-In the code and in the specs the step is the proof of the lowest crate that must refuse; in the second program it is the comparison of
-its tables with those of the specs, and of its answers with the proved programs and the rows of the static library. A number is altered
+In the code and in the specs the step is the proof of the lowest crate that must refuse; in the second program, and for the periods of the
+specs, it is the comparison of its tables with those of the specs, and of its answers with the proved programs and the rows of the static
+library. A number is altered
 by one up in its last digit, by one down where up shows nothing (DOWN), and not at all where neither does (SAME). Built before it:
 everything that `rt check` (all crates proved), `programs/link` (target/bin) and `c/test` (target/c/rows) leave in target/, as the gate
 does. The work is done in copies; the repository is not touched. --sample N takes N numbers of each place of PLACES and N of each kind of
@@ -59,7 +60,7 @@ def of(names):
 
 EVERY = re.compile("")
 
-# A place: its kind, the files, which lines hold the numbers, and the crate whose proof must fail (none for the second program). A
+# A place: its kind, the files, which lines hold the numbers, and the crate whose proof must fail (none for the comparison). A
 # pattern is looked for in a line with the name of its definition and ": " in front. A number belongs to the first place that has it.
 PLACES = [
     ("code", "crates/tables/src/table2.rt", re.compile(r":\s+(c\d+|k[123]): -?[\d_]+,"), "tables"),
@@ -95,6 +96,7 @@ MORE = [
     ("code", "crates/terms/src/*.rt", EVERY, "terms"),
     ("code", "crates/site/src/*.rt", EVERY, "site"),
     ("code", "crates/sigmas/src/*.rt", EVERY, "sigmas"),
+    ("code", "crates/short_periods/src/*.rt", EVERY, "short_periods"),
     ("code", "crates/reports/src/*.rt", EVERY, "reports"),
     ("code", "crates/reckon/src/*.rt", EVERY, "reckon"),
     ("code", "crates/text/src/*.rt", EVERY, "text"),
@@ -112,6 +114,9 @@ MORE = [
     ("specs", "crates/outcome/specs/*.antt", of("zhypOf"), "source_stage"),
     ("specs", "crates/outcome/specs/*.antt", of("tooShort"), "path_stage"),
     ("specs", "crates/outcome/specs/*.antt", EVERY, "completion"),
+    # Of the periods a proof reads only which are short; what each is, is held to the second program's.
+    ("specs", "crates/tables/specs/*.antt", of("periods"), None),
+    ("specs", "crates/model/specs/*.antt", of("isShort"), "model"),
     # Where the code has an array's length, and PGA's place in it.
     ("specs", "crates/tables/specs/*.antt", of("measures"), "measures"),
     ("specs", "crates/tables/specs/*.antt", of("PGA"), "site"),
@@ -135,7 +140,7 @@ MORE = [
     ("specs", "crates/lists/specs/*.antt", EVERY, "lists"),
     ("specs", "crates/kept/specs/*.antt", EVERY, "kept"),
     ("specs", "crates/export/specs/*.antt", of("spectrumRefusal spectrumAfter"), "export"),
-    ("second", "second/model.c", of("C N ROCK SIGMA_AF f_mag f_flt f_hng_r f_hng_m f_hng f_sed rock_pga slope intra_squared"), None),
+    ("second", "second/model.c", of("C N ROCK SIGMA_AF PERIOD is_short f_mag f_flt f_hng_r f_hng_m f_hng f_sed rock_pga slope intra_squared"), None),
     ("second", "second/*.h", re.compile(r": #define "), None),
     ("second", "second/request.c", of("style_of sine cosine estimate_(?!request).* hypocentre root_up across_strike figures_of"), None),
     ("second", "second/request.c", re.compile(r"^parse_field: .*(count|digits\[)|^parse_line: .*FIELDS"), None),
@@ -158,6 +163,8 @@ DOWN = [
     ("crates/site/src/*", r"if v < 1_100", "at 1100 both branches give 1100"),
     ("crates/model/specs/*", r"^rockPGA\w*: .* x 1100", "from 1100 up the site term stays the same"),
     ("crates/site/src/*", r"f_site_linear\(c, 1_100", "from 1100 up the site term stays the same"),
+    ("crates/model/specs/*", r"^isShort: .*0_250", "no period lies between 0.25 and 0.30 s"),
+    ("second/model.c", r"^is_short: .*0\.25", "no period lies between 0.25 and 0.30 s"),
     ("crates/fixed/specs/*", r"lnHalved 18|lnDoubled 6", "the most halvings that a number can ask for: one more is never taken"),
     ("crates/reckon/src/*", r"if twos < 32", "at 32 both branches shift by nothing"),
 ]

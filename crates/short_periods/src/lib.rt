@@ -18,9 +18,11 @@ pub fn is_short(i: usize) -> bool
 pub fn not_below_pga(i: usize, own: Fine, pga: Fine) -> Fine
     ensures { λ r. ⌜ r ≡ raised i own pga ⌝ }
 {
-    if is_short(i) && own.ln < pga.ln {
+    let ln = own.ln;
+    let least = pga.ln;
+    if is_short(i) && ln < least {
         return Fine {
-            ln: pga.ln,
+            ln: least,
             intra: own.intra,
             t: own.t,
             total: own.total,

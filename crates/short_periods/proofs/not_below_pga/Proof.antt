@@ -32,35 +32,38 @@ above-pga i own pga s l = rw (s, l)
 is-short-requires : tie.Need-is-short-requires
 is-short-requires c κs = search needs
 
-short-is : (c : tie.After-is-short) (t : Bool) → c .is-short .result ≡ t → isShort (c .before .args .i) ≡ t
+abbrev start : tie.After-is-short → tie.Start
+start c = c .before .before .before
+
+short-is : (c : tie.After-is-short) (t : Bool) → c .is-short .result ≡ t → isShort (start c .args .i) ≡ t
 short-is c t e = sym (c .is-short .ensures) ∙ e
 
-own-fits : (c : tie.After-struct-told) → SFits w64 (c .before .before .before .before .args .own .ln)
-own-fits c = record { sfits = c .struct-told .given .0 .1 }
+own-fits : (c : tie.After-is-short) → SFits w64 (start c .args .own .ln)
+own-fits c = record { sfits = c .before .before .struct-told .given .0 .1 }
 
-pga-fits : (c : tie.After-struct-told2) → SFits w64 (c .before .before .before .before .before .before .args .pga .ln)
-pga-fits c = record { sfits = c .struct-told2 .given .0 .1 }
+pga-fits : (c : tie.After-is-short) → SFits w64 (start c .args .pga .ln)
+pga-fits c = record { sfits = c .before .struct-told2 .given .0 .1 }
 
 returns : tie.Need-returns
 returns c =
-    let g = c .before .before in
-    let o = g .before .before in
-    let f = o .before .before in
-    let s = f .before .before in
-    simp (toZ-ofZ (pga-fits g))
+    let f = c .before in
+    let h = f .before in
+    let s = start h in
+    simp (toZ-ofZ (pga-fits h))
     (sym
-    (at-pga (s .args .i) (s .args .own) (s .args .pga) (short-is (f .before) true (f .if1 .taken))
-    (lt-read (own-fits o) (pga-fits g) (c .before .if2 .taken))))
+    (at-pga (s .args .i) (s .args .own) (s .args .pga) (short-is h true (f .if1 .taken))
+    (lt-read (own-fits h) (pga-fits h) (c .if2 .taken))))
 
 returns-2 : tie.Need-returns-2
 returns-2 c =
-    let s = c .before .before in
+    let h = c .before in
+    let s = start h in
     sym
     (⊎-elim
-    (λ w. above-pga (s .args .i) (s .args .own) (s .args .pga) (short-is (c .before) true (w .0 .taken))
-    (lt-read {a = s .args .own .ln} {b = s .args .pga .ln} (record { sfits = w .2 .given .0 .1 }) (record { sfits = w .4 .given .0 .1 })
-    (w .5 .left)))
-    (λ w. raised-long (s .args .i) (s .args .own) (s .args .pga) (short-is (c .before) false (w .left)))
+    (λ w.
+    above-pga (s .args .i) (s .args .own) (s .args .pga) (short-is h true (w .0 .taken))
+    (lt-read (own-fits h) (pga-fits h) (w .1 .left)))
+    (λ w. raised-long (s .args .i) (s .args .own) (s .args .pga) (short-is h false (w .left)))
     (c .if1 .came))
 
 pub not-below-pga-spec : {M : Type 1} → statement M
