@@ -80,6 +80,16 @@ static void one_measure(uint8_t *end)
     expect(bits == nan_bits && total == 0.0 && 1.0 / total < 0.0, "a NaN and -0.0 are as they were");
 }
 
+static void each_measure(const double *rows)
+{
+    for (uint64_t k = 0; k < XANHUPIVE_MEASURES; k++) {
+        double median = -1.0;
+        double total = -1.0;
+        expect(xanhupive_measure(line, length, k, &median, &total) == 0, "each measure");
+        expect(median == rows[6 * k + 1] && total == rows[6 * k + 4], "a measure alone is that of the spectrum");
+    }
+}
+
 static void spectrum(uint8_t *end, uint8_t *numbers_end)
 {
     const uint8_t mark = 0xa5;
@@ -100,13 +110,23 @@ static void spectrum(uint8_t *end, uint8_t *numbers_end)
         expect(xanhupive_spectrum(line, length, rows, XANHUPIVE_NUMBERS + more) == 0, "a spectrum");
         expect(all_are((uint8_t *)(rows - 8), (uint8_t *)rows, mark), "the numbers before are as they were");
         expect(all_are((uint8_t *)(rows + XANHUPIVE_NUMBERS), numbers_end, mark), "the numbers behind are as they were");
-        for (uint64_t k = 0; k < XANHUPIVE_MEASURES; k++) {
-            double median = -1.0;
-            double total = -1.0;
-            expect(xanhupive_measure(line, length, k, &median, &total) == 0, "each measure");
-            expect(median == rows[6 * k + 1] && total == rows[6 * k + 4], "a measure alone is that of the spectrum");
-        }
+        each_measure(rows);
     }
+}
+
+/* A soft site near a large earthquake, where eight periods up to 0.25 s have medians of their own below PGA's. */
+static void soft_site(uint8_t *end)
+{
+    double rows[XANHUPIVE_NUMBERS] = {0};
+    const double *pga = rows + 6 * 21;
+    request(end, "800 90 150 45 20000 - 1000 0 90 1000 - - 10000");
+    expect(xanhupive_spectrum(line, length, rows, XANHUPIVE_NUMBERS) == 0, "a soft site's spectrum");
+    for (const double *row = rows; row < rows + 6 * 9; row += 6)
+        expect(row[0] == pga[0] && row[1] == pga[1], "a short period below PGA has PGA's median");
+    for (const double *row = rows + 6; row < rows + 6 * 9; row += 6)
+        expect(row[2] != pga[2] && row[4] != pga[4] && row[5] != pga[5], "and its own sigmas");
+    expect(rows[6 * 9] > pga[0] && rows[6 * 9 + 1] > pga[1], "0.30 s has its own median");
+    each_measure(rows);
 }
 
 int main(void)
@@ -124,5 +144,6 @@ int main(void)
     every_length(xanhupive_predict_line, "no 14\n", 6, out_end);
     one_measure(line_end);
     spectrum(line_end, out_end);
+    soft_site(line_end);
     return counted("edges");
 }

@@ -39,7 +39,10 @@ extern "C" {
 /* Bytes that are enough for any answer of either sheet, its LFs counted. */
 #define XANHUPIVE_LONGEST_ANSWER 912
 
-/* Measures: 0 to 20 the periods from 0.010 to 10.0 s, 21 PGA, 22 PGV, 23 PGD. */
+/*
+ * Measures: 0 to 20 the periods from 0.010 to 10.0 s, 21 PGA, 22 PGV, 23 PGD. Of measures 0 to 8, the periods
+ * up to 0.25 s, ln median and median are PGA's where their own are lower; the sigmas are always their own.
+ */
 #define XANHUPIVE_MEASURES 24
 
 /* Numbers of a row: ln median, median, and the sigmas intra-event, inter-event, total, arbitrary. */

@@ -15,7 +15,8 @@ pub const LONGEST_COMPLETION: usize = 38;
 /// Bytes that are enough for any answer of [`predict_line`].
 pub const LONGEST_ANSWER: usize = 912;
 
-/// How many measures a spectrum has.
+/// How many measures a spectrum has: the periods from 0.010 to 10.0 s, PGA, PGV, PGD. No median up to 0.25 s is
+/// below PGA's: where its own is lower it is PGA's, with the period's own sigmas.
 pub const MEASURES: usize = 24;
 
 /// How many numbers a row has: ln median, median, and the sigmas intra, inter, total, arbitrary.

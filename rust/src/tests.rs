@@ -7,6 +7,9 @@ pub(crate) const GOOD: &[u8] = b"650 0 760 - 10000 - 3000 4000 30 - - - 2000";
 pub(crate) const TOO_LARGE: &[u8] = b"851 0 760 - 10000 - 3000 4000 30 - - - 2000";
 pub(crate) const ABOVE: &[u8] = b"650 90 300 40 10000 - 3000 0 90 - - - 2000";
 
+/// A soft site near a large earthquake.
+const SOFT: &[u8] = b"800 90 150 45 20000 - 1000 0 90 1000 - - 10000";
+
 /// Lines that cannot be read.
 const MALFORMED: [&[u8]; 6] = [
     b"",
@@ -77,11 +80,28 @@ fn predicts_the_rows_of_the_spectrum() {
 
 #[test]
 fn a_measure_is_that_of_the_spectrum() {
-    let rows = spectrum(GOOD).expect("accepted");
-    for (k, row) in rows.iter().enumerate() {
-        assert_eq!(measure(GOOD, k as u64), Ok((row[1], row[4])));
-        assert!(row.iter().all(|number| number.fract() == 0.0));
+    for line in [GOOD, SOFT] {
+        let rows = spectrum(line).expect("accepted");
+        for (k, row) in rows.iter().enumerate() {
+            assert_eq!(measure(line, k as u64), Ok((row[1], row[4])));
+            assert!(row.iter().all(|number| number.fract() == 0.0));
+        }
     }
+}
+
+/// Eight periods up to 0.25 s have medians of their own below PGA's there, each its own sigma; 0.30 s does not.
+#[test]
+fn short_periods_are_not_below_pga() {
+    let rows = spectrum(SOFT).expect("accepted");
+    let pga = rows[PGA as usize];
+    assert!((pga[0] - -604614.0).abs() <= 1.0);
+    for row in &rows[..=8] {
+        assert_eq!(row[..2], pga[..2]);
+    }
+    for row in &rows[1..=8] {
+        assert!(row[2..].iter().zip(&pga[2..]).any(|(own, other)| own != other));
+    }
+    assert!((rows[9][0] - -536968.0).abs() <= 1.0);
 }
 
 /// What the published equations give for the peak acceleration of document 01's line.

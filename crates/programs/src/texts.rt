@@ -56,7 +56,8 @@ fn put_answers_help(sheet: Sheet) -> bool {
             millionths. Measures 0 to 20 are the spectrum in g at the periods 0.010, 0.020,\n\
             0.030, 0.050, 0.075, 0.10, 0.15, 0.20, 0.25, 0.30, 0.40, 0.50, 0.75, 1.0, 1.5,\n\
             2.0, 3.0, 4.0, 5.0, 7.5 and 10.0 s; 21 is PGA in g, 22 PGV in cm/s, 23 PGD in\n\
-            cm. A request that is refused gets \"no\" and the number of the refusal.\n",
+            cm. Up to 0.25 s a median that would be below PGA's is PGA's; its sigma stays. A\n\
+            request that is refused gets \"no\" and the number of the refusal.\n",
         ),
     }
 }
