@@ -286,9 +286,9 @@ class Comparison:
         return True
 
     def raised(self, lines, completed):
-        """The measures of each accepted request whose medians the second program raises to PGA's."""
-        said = run([self.second, "raised"], at_completed(lines, completed)).decode().split()
-        return [[] if line == "-" else [int(k) for k in line.split(";")] for line in said]
+        """The measures of each request that both programs accept whose medians the second raises to PGA's."""
+        said = run([self.second, "raised"], at_completed(lines, completed)).decode().split("\n")
+        return [[int(k) for k in re.findall(r"\d+", line)] for line in said if line and not line.startswith("no ")]
 
     def short_lists(self, predict):
         """Compares what the programs print for lists without an accepted line, byte for byte."""

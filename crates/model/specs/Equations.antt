@@ -172,7 +172,7 @@ lnOwn i x = lnMedianAt (coefficientsAt i) x (x .vs30) (rockPGA x)
 unfoldable pub isShort : ℕ → Bool
 isShort i = getD (map (λ (t : ℕ). leb t 0_250) periods) i false
 
--- when PSA < PGA and T ≤ 0.25 s, PSA is PGA; as logarithms
+-- below (12): when PSA < PGA and T ≤ 0.25 s, PSA is PGA; as logarithms
 abbrev pub notBelowPGA : ℕ → ℤ → ℤ → ℤ
 notBelowPGA i psa pga = elim (isShort i && ltZ psa pga) [ true ↦ pga | false ↦ psa ]
 

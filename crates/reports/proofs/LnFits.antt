@@ -1,4 +1,4 @@
-use Rattle.model.specs.Fixed.{FineInRange}  -- A ln median in range, and its nearest millionth, fit 64 bits. Assumes nothing.
+-- A ln median in range, and its nearest millionth, fit 64 bits. Assumes nothing.
 use Prim.Native.Nat.{_≤_}
 use native.Mathlib.Omega.{arith}
 use native.Mathlib.Nat.{le-trans}
@@ -9,6 +9,7 @@ use mir.Val.{SFits}
 use Rattle.exact.proofs.Signed.{sfits, sfits-abs}
 use Rattle.fixed.specs.Fixed.{nearest}
 use Rattle.model.specs.declared.Fine.{Fine}
+use Rattle.model.specs.Fixed.{FineInRange}
 use Rattle.model.proofs.Sizes.{by-parts, ln-size}
 
 module _ (f : Fine) (r : FineInRange f) where
