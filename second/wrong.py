@@ -104,7 +104,7 @@ WRONG = [
     ("main.c", "r.median, r.total);", "r.median, r.arbitrary);"),
     ("main.c", "r.median, r.total);", "r.median, r.intra);"),
     ("main.c", "    return MEASURES;", "    return MEASURES - 1;"),
-    ("model.c", "spectrum[measure] = predict(f, measure, a);", "spectrum[measure] = predict(f, 0, a);"),
+    ("model.c", "spectrum[measure] = predict(f, measure, a,", "spectrum[measure] = predict(f, 0, a,"),
     ("model.c", "#define C 1.88", "#define C 1.881"),
     ("model.c", "#define N 1.18", "#define N 1.181"),
     ("model.c", "#define ROCK 1100.0", "#define ROCK 1101.0"),
