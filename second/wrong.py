@@ -183,35 +183,44 @@ def tried(script, program, *more):
     return done.returncode == 0, done.stdout
 
 
+def off(number, by):
+    """A printed number so much more in its last digit."""
+    places = len(number.partition(".")[2])
+    return f"{float(number) + by * 10**-places:.{places}f}"
+
+
 def digits(text, table, columns):
-    """Each number of a table as the text around it with its last digit put wrong by one, and its place."""
+    """Each number of a table as the text around it with its last digit put wrong by one, up and down, and its place."""
     start = text.index(table + "[MEASURES] = {")
     rows = list(re.finditer(r"\{([^{}]*)\}", text[start + len(table) + 14:text.index("};", start)]))
     for measure, row in enumerate(rows):
         at = start + len(table) + 14 + row.start(1)
         for column, number in enumerate(re.finditer(r"[-\d.]+", row[1])):
             if column in columns(measure):
-                last = at + number.end() - 1
-                digit = str(int(text[last]) + 1 if text[last] < "9" else 8)
-                yield measure, column, text[:last] + digit + text[last + 1:]
+                before, behind = text[:at + number.start()], text[at + number.end():]
+                yield measure, column, [before + off(number[0], by) + behind for by in (1, -1)]
 
 
 def table_programs():
-    """Every number that a predicted line shows, one in its last digit off. Where k2 is 0 the correlation is read by nothing."""
+    """Every number that a predicted line shows, as the programs with one more in its last digit. Where k2 is 0 the correlation is read by
+    nothing. 0.010 s has PGA's numbers of Table 2, and a median of its own that is lower than PGA's never shows, so there one less is
+    tried too: one of the two must be refused."""
     with open(os.path.join(HERE, "model.c")) as given:
         text = given.read()
     rows = re.findall(r"\{([^{}]*)\}", text.split("TABLE2[MEASURES] = {")[1])[:24]
     soft = {measure for measure, row in enumerate(rows) if float(row.split(",")[14]) != 0}
     for table, columns in (("TABLE2", lambda m: range(16)), ("TABLE3", lambda m: {0, 1, 3} if m in soft else {0, 1})):
         for measure, column, changed in digits(text, table, columns):
-            yield f"{table} measure {measure} column {column}", edited("model.c", text, changed)
+            some = changed if (table, measure) == ("TABLE2", 0) else changed[:1]
+            yield f"{table} measure {measure} column {column}", [edited("model.c", text, other) for other in some]
 
 
 def try_tables(compare):
     """Puts each number of the tables wrong; how many of these programs pass the comparison."""
     count = passing = outside = 0
-    for name, program in table_programs():
-        compared, vectors = tried("compare.py", program, *compare)[0], tried("vectors.py", program)[0]
+    for name, programs in table_programs():
+        compared = all(tried("compare.py", program, *compare)[0] for program in programs)
+        vectors = all(tried("vectors.py", program)[0] for program in programs)
         count, passing, outside = count + 1, passing + compared, outside + (not vectors)
         if compared:
             print(f"FAILED {name} passes the comparison")
