@@ -1,6 +1,7 @@
 pub mod LnTwos
 pub mod SignedLaws
 pub mod LnNear
+pub mod LnNarrow
 pub mod ExpNear
 pub mod Growing
 pub mod SineNear

@@ -6,15 +6,18 @@ use mathlib.Core.Bool.{true, false}
 use lib.Dec.{ltb, leb}
 use lib.IntN.{ℤ, pos, negsuc, negℤ, _-ℤ_, _*ℤ_}
 use lib.Signed.{quotZ}
-use Rattle.exact.specs.Series.{lnSeries, expTerms, sinSeries}
+use Rattle.exact.specs.Series.{lnTerms, lnSeries, expTerms, sinSeries}
 use Rattle.exact.specs.Near.{up, dn}
 
--- one, in units of 10^-9 and of 10^-10
+-- one, in units of 10^-9, of 10^-10 and of 10^-12
 abbrev pub E9 : ℕ
 E9 = 1_000000_000
 
 abbrev pub E10 : ℕ
 E10 = 10_000000_000
+
+abbrev pub E12 : ℕ
+E12 = 1_000000_000000
 
 -- how many units of 10^-30 one of 10^-9, and one of 10^-10, has
 abbrev pub K21 : ℕ
@@ -45,6 +48,12 @@ nearest (negsuc n) d = negℤ (pos ((suc n + d / 2) / d))
 unfoldable pub lnRatio : ℕ → ℕ → ℕ
 unfolding lnSeries
 lnRatio p q = lnSeries E10 10 ((p - q) * E10 / (p + q))
+
+-- the same for small whole numbers, more precise: z² is a quotient of two of them, so that each power of z stands in units of 10^-12;
+-- twelve terms
+unfoldable pub lnNarrow : ℕ → ℕ → ℕ
+unfolding lnTerms
+lnNarrow p q = 2 * lnTerms ((p + q) * (p + q)) ((p - q) * (p - q)) ((p - q) * E12 / (p + q)) 1 12 / 100
 
 -- ln y, y in units of 10^-9 from 1 up, halved f times at most; in units of 10^-10
 unfoldable pub lnHalved : ℕ → ℕ → ℕ

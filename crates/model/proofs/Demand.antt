@@ -104,7 +104,7 @@ module _ (i : ℕ) (x : Scenario) (h : i < 24) (r : InRange x) where
       record {
         under = exactVariance;
         is = refl;
-        near = near-wide K21 287 298 _ _ (lit≤ tt) (intra-variance .0);
+        near = near-wide K21 287 290 _ _ (lit≤ tt) (intra-variance .0);
         least = intra-variance .1;
       }
 
@@ -114,7 +114,7 @@ module _ (i : ℕ) (x : Scenario) (h : i < 24) (r : InRange x) where
       record {
         under = exactTotal;
         is = refl;
-        near = near-wide K21 288 298 _ _ (lit≤ tt) total-variance;
+        near = near-wide K21 288 290 _ _ (lit≤ tt) total-variance;
         least = le-trans (intra-variance .1) (le-add-right (varianceFixed i x) t2);
       }
 
@@ -125,7 +125,7 @@ module _ (i : ℕ) (x : Scenario) (h : i < 24) (r : InRange x) where
         under = rootE exactTotal * rootE exactTotal / E30 + deviationsAt i .sC * deviationsAt i .sC * E24;
         is = refl;
         near =
-            near-wide K21 289 298 _ _ (lit≤ tt)
+            near-wide K21 289 290 _ _ (lit≤ tt)
             (joined-near 288 (varianceFixed i x + t2) exactTotal (deviationsAt i .sC) total-top total-variance);
         least = le-trans (total-near .least) (le-add-right (varianceFixed i x + t2) sC2);
       }

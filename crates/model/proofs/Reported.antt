@@ -1,6 +1,6 @@
 -- A row that is reported of a fine one is as near the exact values as `Accurate` says, whichever measure's they are, where the fine one
--- is as near them as `FineNear` says. The nearest millionth of a number within 400 units of 10^-9 is within 900 of them, so within one
--- millionth. The exponential of such a number is within 10 + 402 + 1 parts in 10^9 and one unit of 10^-10 and a little,
+-- is as near them as `FineNear` says. The nearest millionth of a number within 500 units of 10^-9 is within 1000 of them, so within one
+-- millionth. The exponential of such a number is within 10 + 502 + 1 parts in 10^9 and one unit of 10^-10 and a little,
 -- of which the last is made up by what 1/500000, 2000 parts, leaves, as the median is above one unit: at ln median -15 it is above
 -- 3000. Assumes nothing.
 use Prim.Native.Nat.{ℕ, _+_, _*_, _^_, _≤_, _<_}
@@ -18,8 +18,8 @@ use Rattle.exact.proofs.ExpExact.{expE-near, expE-mono}
 use Rattle.model.specs.FineNear.{minusFifteen, Between, RootNear, FineNear}
 use Rattle.model.specs.Accuracy.{Exact, Accurate}
 use Rattle.exact.proofs.RelLaws.{chain}
-use Rattle.exact.proofs.NearLaws.{near→within}
-use Rattle.model.specs.Equations.{most, E24}
+use Rattle.exact.proofs.NearLaws.{near→within, near-wide}
+use Rattle.model.specs.Equations.{most, E24, E27}
 use Rattle.model.specs.Fixed.{sigmaOf, report}
 use Rattle.fixed.proofs.ExpNear.{expFixed-near}
 use Rattle.model.proofs.Between.{near-between}
@@ -60,27 +60,27 @@ report-near {K} {e} {s} {x} he n =
     turned h = omega arith
 
 -- ---- the median
--- 413 parts and a little more than a unit
+-- 513 parts and a little more than a unit
 pub record Valued (p y : ℕ) : Type 0 where
-  pub low : p * E9 ≤ y * (E9 + 413) + K20 * (E9 + 11)
-  pub high : y * E9 ≤ p * (E9 + 413) + K20 * (E9 + 414)
+  pub low : p * E9 ≤ y * (E9 + 513) + K20 * (E9 + 11)
+  pub high : y * E9 ≤ p * (E9 + 513) + K20 * (E9 + 514)
 
-pub value-near : (s x : ℤ) → up s ≤ 22000000000 → dn s ≤ 22000000000 → NearZ K21 400 s x → Valued (expFixed s * K20) (expE x)
+pub value-near : (s x : ℤ) → up s ≤ 22000000000 → dn s ≤ 22000000000 → NearZ K21 500 s x → Valued (expFixed s * K20) (expE x)
 value-near s x hu hd n =
-    let near = expE-near E9 K21 400 refl (lit≤ tt) (lit≤ tt) (lit≤ tt) (lit≤ tt) (s *ℤ pos K21) x (near→within K21 400 s x n) in
+    let near = expE-near E9 K21 500 refl (lit≤ tt) (lit≤ tt) (lit≤ tt) (lit≤ tt) (s *ℤ pos K21) x (near→within K21 500 s x n) in
     let leaf = expFixed-near s hu hd in
     let p : ℕ = expFixed s * K20 in
     let m : ℕ = expE (s *ℤ pos K21) in
     record {
       low =
           le-trans
-          (chain E9 10 402 (K20 * (E9 + 10)) (E9 + 402) 11 p m (expE x) (lit≤ tt) (lit≤ tt) (lit≤ tt) (leaf .low) (near .low))
-          (add-le-add (le-refl (expE x * (E9 + 413))) (lit≤ tt));
+          (chain E9 10 502 (K20 * (E9 + 10)) (E9 + 502) 11 p m (expE x) (lit≤ tt) (lit≤ tt) (lit≤ tt) (leaf .low) (near .low))
+          (add-le-add (le-refl (expE x * (E9 + 513))) (lit≤ tt));
       high =
           le-trans
-          (chain E9 402 10 (E9 + 402) (K20 * (E9 + 10)) (K20 * 403) (expE x) m p (lit≤ tt) (lit≤ tt) (lit≤ tt) (near .high)
+          (chain E9 502 10 (E9 + 502) (K20 * (E9 + 10)) (K20 * 503) (expE x) m p (lit≤ tt) (lit≤ tt) (lit≤ tt) (near .high)
           (leaf .high))
-          (add-le-add (le-refl (p * (E9 + 413))) (lit≤ tt));
+          (add-le-add (le-refl (p * (E9 + 513))) (lit≤ tt));
     }
 
 -- the upper bound, in units of which y has at most H
@@ -99,9 +99,9 @@ largest-value : expE (pos (13 * E30)) ≤ 4500000000000000 * K20
 unfolding expE
 largest-value = lit≤ tt
 
--- a fine ln median within 400 units of an exact one from -15 to 13
-module _ (s x : ℤ) (n : NearZ K21 400 s x) (b : Between minusFifteen (pos (13 * E30)) x) where
-  pub ln-parts : (dn s ≤ 15000000400) × (up s ≤ 13000000400)
+-- a fine ln median within 500 units of an exact one from -15 to 13
+module _ (s x : ℤ) (n : NearZ K21 500 s x) (b : Between minusFifteen (pos (13 * E30)) x) where
+  ln-parts : (dn s ≤ 15000000500) × (up s ≤ 13000000500)
   ln-parts = near-between 15000000000 13000000000 (lit≤ tt) (lit≤ tt) (lit≤ tt) b n
 
   valued : Valued (expFixed s * K20) (expE x)
@@ -117,30 +117,30 @@ module _ (s x : ℤ) (n : NearZ K21 400 s x) (b : Between minusFifteen (pos (13 
   value-one : 1 ≤ expFixed s
   value-one = go (expFixed s) (expE x) least (valued .high)
     where
-      go : (p y : ℕ) → 3000 * K20 ≤ y → y * E9 ≤ p * K20 * (E9 + 413) + K20 * (E9 + 414) → 1 ≤ p
+      go : (p y : ℕ) → 3000 * K20 ≤ y → y * E9 ≤ p * K20 * (E9 + 513) + K20 * (E9 + 514) → 1 ≤ p
       go p y k l = omega arith
 
   -- so taking at least one changes nothing
   value-is : most 1 (expFixed s) ≡ expFixed s
   value-is = most-by (λ (n : ℕ). n ≡ expFixed s) 1 (expFixed s) (λ k. omega (arith, value-one)) (λ k. refl)
 
-  median-one : 1 ≤ most 1 (expFixed s)
+  pub median-one : 1 ≤ most 1 (expFixed s)
   median-one = subst (λ (n : ℕ). 1 ≤ n) (sym value-is) value-one
 
-  median-low : 500000 * (most 1 (expFixed s) * K20) ≤ 500000 * expE x + 500000 * K20 + expE x
+  pub median-low : 500000 * (most 1 (expFixed s) * K20) ≤ 500000 * expE x + 500000 * K20 + expE x
   median-low =
       subst (λ (n : ℕ). 500000 * (n * K20) ≤ 500000 * expE x + 500000 * K20 + expE x) (sym value-is)
       (go (expFixed s * K20) (expE x) least (valued .low))
     where
-      go : (p y : ℕ) → 3000 * K20 ≤ y → p * E9 ≤ y * (E9 + 413) + K20 * (E9 + 11) → 500000 * p ≤ 500000 * y + 500000 * K20 + y
+      go : (p y : ℕ) → 3000 * K20 ≤ y → p * E9 ≤ y * (E9 + 513) + K20 * (E9 + 11) → 500000 * p ≤ 500000 * y + 500000 * K20 + y
       go p y k l = omega arith
 
-  median-high : 500000 * expE x ≤ 500000 * (most 1 (expFixed s) * K20) + 500000 * K20 + expE x
+  pub median-high : 500000 * expE x ≤ 500000 * (most 1 (expFixed s) * K20) + 500000 * K20 + expE x
   median-high =
       subst (λ (n : ℕ). 500000 * expE x ≤ 500000 * (n * K20) + 500000 * K20 + expE x) (sym value-is)
       (go (expFixed s * K20) (expE x) (valued .high))
     where
-      go : (p y : ℕ) → y * E9 ≤ p * (E9 + 413) + K20 * (E9 + 414) → 500000 * y ≤ 500000 * p + 500000 * K20 + y
+      go : (p y : ℕ) → y * E9 ≤ p * (E9 + 513) + K20 * (E9 + 514) → 500000 * y ≤ 500000 * p + 500000 * K20 + y
       go p y l = omega arith
 
   -- and it is below 2^53
@@ -148,15 +148,15 @@ module _ (s x : ℤ) (n : NearZ K21 400 s x) (b : Between minusFifteen (pos (13 
   median-fits =
       subst (λ (n : ℕ). n < 2 ^ 53) (sym value-is)
       (go (expFixed s)
-      (in-units K20 (E9 + 413) (E9 + 11) 4500000000000000 (expFixed s) (expE x) (lit≤ tt) largest (valued .low)))
+      (in-units K20 (E9 + 513) (E9 + 11) 4500000000000000 (expFixed s) (expE x) (lit≤ tt) largest (valued .low)))
     where
-      go : (p : ℕ) → p * E9 ≤ 4500000000000000 * (E9 + 413) + (E9 + 11) → p < 2 ^ 53
+      go : (p : ℕ) → p * E9 ≤ 4500000000000000 * (E9 + 513) + (E9 + 11) → p < 2 ^ 53
       go p k = omega arith
 
 -- ---- a row
 pub sigma-reported : (v s : ℕ) → RootNear v s → NearZ E24 1 (pos (sigmaOf v)) (pos s)
 sigma-reported v s n =
-    subst (λ (t : ℕ). NearZ E24 1 (pos (sigmaOf v)) (pos t)) (sym (n .is)) (sigma-near 298 v (n .under) (lit≤ tt) (n .least) (n .near))
+    subst (λ (t : ℕ). NearZ E24 1 (pos (sigmaOf v)) (pos t)) (sym (n .is)) (sigma-near 290 v (n .under) (lit≤ tt) (n .least) (n .near))
 
 pub report-accurate : (e : Exact) (f : Fine) → FineNear e f → Accurate e (report f)
 unfolding report
@@ -165,16 +165,18 @@ report-accurate e f n =
     let x : ℤ = e .ln in
     let m = sym (n .median-is) in
     let p : ℕ = most 1 (expFixed s) in
+    let near : NearZ K21 500 s x = near-wide K21 400 500 s x (lit≤ tt) (n .ln-near) in
     record {
-      ln-near = report-near (lit≤ tt) (n .ln-near);
-      median-one = median-one s x (n .ln-near) (n .ln-between);
+      ln-near = report-near (lit≤ tt) near;
+      median-one = median-one s x near (n .ln-between);
       median-low =
-          subst (λ (y : ℕ). 500000 * (p * K20) ≤ 500000 * y + 500000 * K20 + y) m (median-low s x (n .ln-near) (n .ln-between));
+          subst (λ (y : ℕ). 500000 * (p * K20) ≤ 500000 * y + 500000 * K20 + y) m (median-low s x near (n .ln-between));
       median-high =
-          subst (λ (y : ℕ). 500000 * y ≤ 500000 * (p * K20) + 500000 * K20 + y) m (median-high s x (n .ln-near) (n .ln-between));
+          subst (λ (y : ℕ). 500000 * y ≤ 500000 * (p * K20) + 500000 * K20 + y) m (median-high s x near (n .ln-between));
       intra-near = sigma-reported (f .intra) (e .intra) (n .intra);
       inter-near =
-          subst (λ (y : ℕ). NearZ E24 0 (pos (f .t * 1000)) (pos y)) (sym (n .inter-is)) (near-exact E24 1000 (pos (f .t)));
+          subst (λ (y : ℕ). NearZ E24 1 (pos (f .t * 1000)) (pos y)) (sym (n .inter-is))
+          (near-wide E24 0 1 (pos (f .t * 1000)) (pos (f .t * E27)) (lit≤ tt) (near-exact E24 1000 (pos (f .t))));
       total-near = sigma-reported (f .total) (e .total) (n .total);
       arbitrary-near = sigma-reported (f .arbitrary) (e .arbitrary) (n .arbitrary);
     }

@@ -49,6 +49,6 @@ pub record Accurate (e : Exact) (r : Row) : Type 0 where
   pub median-low : 500000 * (r .median * E20) ≤ 500000 * e .median + 500000 * E20 + e .median
   pub median-high : 500000 * e .median ≤ 500000 * (r .median * E20) + 500000 * E20 + e .median
   pub intra-near : NearZ E24 1 (pos (r .intra)) (pos (e .intra))
-  pub inter-near : NearZ E24 0 (pos (r .inter)) (pos (e .inter))
+  pub inter-near : NearZ E24 1 (pos (r .inter)) (pos (e .inter))
   pub total-near : NearZ E24 1 (pos (r .total)) (pos (e .total))
   pub arbitrary-near : NearZ E24 1 (pos (r .arbitrary)) (pos (e .arbitrary))

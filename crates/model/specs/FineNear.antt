@@ -19,14 +19,14 @@ pub record Between (lo hi a : ℤ) : Type 0 where
 abbrev pub minusFifteen : ℤ
 minusFifteen = negsuc 14_999999_999999_999999_999999_999999
 
--- v is at least 0.089999 and within 298 units of a number of which s is the exact root
+-- v is at least 0.089999 and within 290 units of a number of which s is the exact root
 pub record RootNear (v s : ℕ) : Type 0 where
   pub under : ℕ
   pub is : s ≡ rootE under
-  pub near : NearZ K21 298 (pos v) (pos under)
+  pub near : NearZ K21 290 (pos v) (pos under)
   pub least : 89999000 ≤ v
 
--- ln median within 400 units of 10^-9, the exact one from -15 to 13; the variances within 298
+-- ln median within 400 units of 10^-9, the exact one from -15 to 13; the variances within 290
 pub record FineNear (e : Exact) (f : Fine) : Type 0 where
   pub ln-near : NearZ K21 400 (f .ln) (e .ln)
   pub ln-between : Between minusFifteen (pos (13 * E30)) (e .ln)

@@ -1,1 +1,3 @@
 pub mod RenderLaws
+pub mod PlainLaws
+pub mod PlainBack

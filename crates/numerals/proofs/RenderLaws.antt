@@ -1,14 +1,14 @@
--- The digits of a number are those of its tenth and one more; how many there are. Assumes nothing.
+-- The digits of a number are those of its tenth and one more; how many there are, and the first of them. Assumes nothing.
 use Prim.Native.Nat.{ℕ, zero, suc, _+_, _/_, _%_, _^_, _≤_, _<_}
 use mathlib.Core.Path.{_≡_, refl, ap, _∙_}
-use mathlib.Core.Bool.{Bool, true, false, cond}
+use mathlib.Core.Bool.{Bool, true, false, cond, _&&_, and-false}
 use mathlib.Core.List.{List, [], _∷_, _++_}
 use native.Mathlib.Omega.{arith}
 use native.Mathlib.Nat.{pow-suc}
-use borrow.Author.Tests.{lt-ltb, le-ltb, ltb-true, ltb-false}
-use lib.Dec.{ltb}
+use borrow.Author.Tests.{lt-ltb, le-ltb, ltb-true, ltb-false, ne-eqb}
+use lib.Dec.{ltb, eqb}
 use lib.IntN.{ℤ, pos, negsuc, natAbs}
-use lib.ListN.{length, length-append}
+use lib.ListN.{length, getD, length-append, List·getD-append}
 use lib.Signed.{ltZ}
 use Rattle.exact.proofs.Signed.{lt-parts, nlt-parts}
 use Rattle.numerals.specs.Render.{minus, digit0, digitsIn, render, renderSigned, ended}
@@ -60,6 +60,26 @@ length-render (suc k) n h = go (ltb n 10) refl (length-render k (n / 10) (omega 
     go : (t : Bool) → ltb n 10 ≡ t → length (render (n / 10)) ≤ suc k → length (render n) ≤ suc (suc k)
     go true e ih = omega (arith, length-one n (ltb-true n 10 e))
     go false e ih = omega (arith, length-more n (ltb-false n 10 e))
+
+-- ---- its first digit
+pub some-digit : (n : ℕ) → 0 < length (render n)
+some-digit = by-tenths (λ n. 0 < length (render n)) (λ n h. omega (arith, length-one n h)) (λ n h ih. omega (arith, length-more n h))
+
+-- "0" leads no number but 0
+pub no-leading-zero : (n : ℕ) → 1 ≤ n → digit0 < getD (render n) 0 0
+no-leading-zero =
+    by-tenths (λ n. 1 ≤ n → digit0 < getD (render n) 0 0)
+    (λ n h k. rw (render-one n h) (omega arith))
+    (λ n h ih k. rw (render-more n h, List·getD-append (render (n / 10)) ((digit0 + n % 10) ∷ []) 0 0 (some-digit (n / 10))) (ih (omega arith)))
+
+pub no-zero-more : (n : ℕ) → ltb 1 (length (render n)) && eqb (getD (render n) 0 0) digit0 ≡ false
+no-zero-more n = go (ltb n 10) refl
+  where
+    go : (t : Bool) → ltb n 10 ≡ t → ltb 1 (length (render n)) && eqb (getD (render n) 0 0) digit0 ≡ false
+    go true e = rw (length-one n (ltb-true n 10 e))
+    go false e =
+        let h : digit0 < getD (render n) 0 0 = no-leading-zero n (omega (arith, ltb-false n 10 e)) in
+        rw (ne-eqb (getD (render n) 0 0) digit0 (λ q. omega arith)) (and-false (ltb 1 (length (render n))))
 
 -- ---- with a sign
 pub below-zero : (z : ℤ) → ltZ z (pos 0) ≡ true → renderSigned z ≡ minus ∷ render (natAbs z)

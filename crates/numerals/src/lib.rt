@@ -1,6 +1,10 @@
-// Numbers as decimal digits, written into lent bytes from a place on, and counted. Each function that
-// writes returns the place after what it wrote, and leaves every other byte as it was.
+// Numbers as decimal digits: written into lent bytes from a place on, counted, and read. Each function
+// that writes returns the place after what it wrote, and leaves every other byte as it was.
+mod read;
+
 use lent::put_byte;
+pub use read::Plain;
+pub use read::plain_number;
 use sizes::size_of;
 ghost use mathlib.Core.Path.{_≡_};
 ghost use Prim.Native.Nat.{_+_, _≤_};

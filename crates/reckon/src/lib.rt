@@ -11,6 +11,7 @@ mod units;
 
 pub use exp::exp_fixed;
 pub use ln::ln_fixed;
+pub use ln::ln_narrow;
 pub use ln::ln_quotient;
 pub use root::whole_root;
 pub use signed::mul_div;

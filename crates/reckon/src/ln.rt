@@ -1,10 +1,11 @@
 // The natural logarithm of a fixed-point number and of a quotient of two whole numbers.
 use crate::units::E9;
 use crate::units::E10;
+use crate::units::E12;
 use crate::units::LN2;
 ghost use mathlib.Core.Path.{_≡_};
 ghost use Prim.Native.Nat.{_*_, _≤_, _<_};
-ghost use Rattle.fixed.specs.Fixed.{E9, lnRatio, lnFixed, lnQuotient};
+ghost use Rattle.fixed.specs.Fixed.{E9, lnRatio, lnNarrow, lnFixed, lnQuotient};
 
 // ln 8 in units of 10^-9.
 const LN8: i64 = 2_079_441_541;
@@ -27,6 +28,27 @@ fn ln_ratio(p: u64, q: u64) -> u64
         left -= 1;
     }
     2 * sum
+}
+
+// ln (p/q), p/q from 1 to 2 and p up to 10,000, in units of 10^-10, more precise: twelve terms of the same
+// series. The square of z is a quotient of two whole numbers, and each power of z stands in units of 10^-12.
+pub fn ln_narrow(p: u64, q: u64) -> u64
+    requires { ⌜ (1 ≤ q) × (q ≤ p) × (p ≤ 2 * q) × (p ≤ 10000) ⌝ }
+    ensures { λ r. ⌜ (r ≡ lnNarrow p q) × (r ≤ 6931471806) ⌝ }
+{
+    let square = (p - q) * (p - q);
+    let whole = (p + q) * (p + q);
+    let mut power = (p - q) * E12 / (p + q);
+    let mut odd: u64 = 1;
+    let mut sum: u64 = 0;
+    let mut left: u64 = 12;
+    while left > 0 {
+        sum += power / odd;
+        power = power * square / whole;
+        odd += 2;
+        left -= 1;
+    }
+    2 * sum / 100
 }
 
 // ln x, from 1/8 up. Three powers of two are put in first, so that no sign comes up before the end.

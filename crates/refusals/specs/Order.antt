@@ -59,6 +59,10 @@ basin = 13
 abbrev pub noMeasure : ℕ
 noMeasure = 15
 
+-- the period is not from the shortest to the longest that is tabulated
+abbrev pub noPeriod : ℕ
+noPeriod = 17
+
 -- the answer is longer than what is lent for it
 abbrev pub tooLong : ℕ
 tooLong = 16
@@ -81,6 +85,7 @@ order =
     ∷ tooShort
     ∷ basin
     ∷ noMeasure
+    ∷ noPeriod
     ∷ tooLong
     ∷ []
 

@@ -47,5 +47,8 @@ pub const BASIN: u32 = 13;
 // There is no such measure.
 pub const NO_MEASURE: u32 = 15;
 
+// The period is not from the shortest to the longest that is tabulated.
+pub const NO_PERIOD: u32 = 17;
+
 // The answer is longer than what is lent for it.
 pub const TOO_LONG: u32 = 16;

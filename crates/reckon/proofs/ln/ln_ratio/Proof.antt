@@ -1,16 +1,15 @@
 -- `reckon::ln::ln_ratio` meets its contract: at each turn the terms passed and the series from here on make the whole series.
 -- Assumes nothing.
-use Prim.Native.Nat.{ℕ, _+_, _-_, _*_, _/_, _≤_, _<_}
-use mathlib.Core.Path.{_≡_, sym, ap, _∙_}
-use native.Mathlib.Nat.{le-trans, zero-add, add-zero}
+use Prim.Native.Nat.{ℕ, _+_, _-_, _*_, _/_, _≤_}
+use mathlib.Core.Path.{ap, _∙_}
+use native.Mathlib.Nat.{le-trans, zero-add}
 use native.Mathlib.Omega.{arith}
 use lib.Dec.{lit≤}
-use Rattle.exact.specs.Series.{lnTerms}
 use Rattle.fixed.specs.Fixed.{E10}
 use Rattle.exact.proofs.Quotients.{mul-small}
 use Rattle.reckon.proofs.Fitting.{mul-fits}
 use Rattle.exact.proofs.LnSeries.{below-third}
-use Rattle.reckon.proofs.LnTerms.{ln-term, ln-most, ratio-is}
+use Rattle.reckon.proofs.LnTerms.{Turn, turn-next, turn-sum, turn-done, ln-most, ratio-is}
 use Rattle.reckon.proofs.ln.ln_ratio.Statement.{statement}
 use Rattle.reckon.proofs.ln.ln_ratio.Tie as tie
 
@@ -18,35 +17,14 @@ use Rattle.reckon.proofs.ln.ln_ratio.Tie as tie
 abbrev third : ℕ
 third = E10 / 3
 
-record Inv (z w p d sum n : ℕ) : Type 0 where
-  p-le : p ≤ third
-  d-pos : 1 ≤ d
-  d-le : d + 2 * n ≤ 100
-  whole : sum + lnTerms E10 w p d n ≡ lnTerms E10 w z 1 10
-
 abbrev Inv-loop : tie.InvT-loop
-Inv-loop p q z square power₀ odd₀ sum₀ left₀ power odd sum left = Inv z square power odd sum left
+Inv-loop p q z square power₀ odd₀ sum₀ left₀ power odd sum left = Turn E10 square z third 10 power odd sum left
 
 abbrev μ-loop : tie.MeasureT-loop
 μ-loop p q z square power₀ odd₀ sum₀ left₀ power odd sum left = left
 
 square-le : {z : ℕ} → z ≤ third → z * z / E10 ≤ third
 square-le {z} h = le-trans (mul-small E10 z (omega arith)) h
-
-step :
-    (z w p d sum n : ℕ) → w ≤ third → 0 < n → Inv z w p d sum n → Inv z w (p * w / E10) (d + 2) (sum + p / d) (n - 1)
-step z w p d sum n h k v =
-    let next : p * w / E10 ≤ p = mul-small E10 p (omega arith) in
-    let term = ln-term E10 w p d n k in
-    record { p-le = omega arith; d-pos = omega arith; d-le = omega arith; whole = omega arith }
-
--- the sum with the next term is at most the whole
-sum-le : (z w p d sum n : ℕ) → 0 < n → Inv z w p d sum n → sum + p / d ≤ lnTerms E10 w z 1 10
-sum-le z w p d sum n k v = omega (arith, ln-term E10 w p d n k)
-
-done : (z w p d sum n : ℕ) → n ≡ 0 → Inv z w p d sum n → sum ≡ lnTerms E10 w z 1 10
-unfolding lnTerms
-done z w p d sum n e v = sym (add-zero sum) ∙ ap (λ (j : ℕ). sum + lnTerms E10 w p d j) (sym e) ∙ v .whole
 
 z-le : (c : tie.Start Inv-loop μ-loop) → (c .args .p - c .args .q) * E10 / (c .args .p + c .args .q) ≤ third
 z-le c = below-third E10 _ _ (omega arith) (omega arith)
@@ -75,7 +53,7 @@ div-sum c = c .before .loop .inv .d-pos
 add-sum : tie.Need-add-sum Inv-loop μ-loop
 add-sum c =
     let l = c .before .loop in
-    omega (arith, sum-le _ _ _ _ _ _ (c .loop-test .taken) (l .inv), ln-most (z-le (c .before .before)))
+    omega (arith, turn-sum _ _ _ _ _ _ _ _ _ (c .loop-test .taken) (l .inv), ln-most (z-le (c .before .before)))
 
 mul-power : tie.Need-mul-power Inv-loop μ-loop
 mul-power c = mul-fits third third (c .before .loop .inv .p-le) (square-le (z-le (c .before .before))) tt
@@ -90,14 +68,15 @@ loop-less : tie.Need-loop-less Inv-loop μ-loop
 loop-less c = omega arith
 
 loop-again : tie.Need-loop-again Inv-loop μ-loop
-loop-again c = step _ _ _ _ _ _ (square-le (z-le (c .before .before))) (c .loop-test .taken) (c .before .loop .inv)
+loop-again c =
+    turn-next _ _ _ _ _ _ _ _ _ (le-trans (square-le (z-le (c .before .before))) (lit≤ tt)) (c .loop-test .taken) (c .before .loop .inv)
 
 mul-result : tie.Need-mul-result Inv-loop μ-loop
-mul-result c = omega (arith, done _ _ _ _ _ _ (omega arith) (c .before .loop .inv), ln-most (z-le (c .before .before)))
+mul-result c = omega (arith, turn-done _ _ _ _ _ _ _ _ _ (omega arith) (c .before .loop .inv), ln-most (z-le (c .before .before)))
 
 returns : tie.Need-returns Inv-loop μ-loop
 returns c =
-    let e = done _ _ _ _ _ _ (omega arith) (c .before .loop .inv) in
+    let e = turn-done _ _ _ _ _ _ _ _ _ (omega arith) (c .before .loop .inv) in
     (ap (λ (s : ℕ). 2 * s) e ∙ ratio-is _ _, omega (arith, e, ln-most (z-le (c .before .before))))
 
 pub ln-ratio-spec : {M : Type 1} → statement M
