@@ -24,8 +24,8 @@ use Rattle.model.proofs.Demand.{fine-near, fine-in-range, demand-3}
 use Rattle.model.proofs.NearSums.{near-exact}
 use Rattle.model.proofs.Quotients.{pos-high}
 use Rattle.model.proofs.Reported.{report-near, median-one, median-low, median-high}
-use Rattle.between.specs.Periods.{periodAt, lastUpTo, weight, onLine, sigmaOnLine, lineExact, exactAt}
-use Rattle.between.specs.Fixed.{weightFixed, onLineFixed, fineSigma, sigmaOnLineFixed, toMillionths, drawnFixed, drawnReport, rowAt}
+use Rattle.between.specs.Periods.{periodAt, lastUpTo, weight, onLine, sigmaOnLine, lineExact, exactFrom, exactAt}
+use Rattle.between.specs.Fixed.{weightFixed, onLineFixed, fineSigma, sigmaOnLineFixed, toMillionths, drawnFixed, drawnReport, rowFrom, rowAt}
 use Rattle.between.proofs.Line.{line-between, line-plain}
 use Rattle.between.proofs.LineNear.{line-near}
 use Rattle.between.proofs.Weight.{weight-near, weightFixed-one, weight-one}
@@ -109,37 +109,43 @@ module _ (w w' : ℕ) (hw : w ≤ E9) (hw' : w' ≤ E30) (wn : NearZ K21 3 (pos 
       inter t i e = subst (λ (z : ℕ). NearZ K21 0 (pos (t * 1000000)) (pos z)) (sym e) (near-exact K21 1000000 (pos t))
 
 -- ---- at any period
-pub period-accurate : (t : ℕ) (x : Scenario) → 10 ≤ t → t ≤ 10000 → InRange x → Accurate (exactAt t x) (rowAt t x)
-unfolding exactAt rowAt
-period-accurate t x l h r = go (eqb (periodAt (lastUpTo t)) t) refl
+-- from the measure of the last tabulated one that is not longer
+from-accurate : (t i : ℕ) (x : Scenario) → Placed t i → InRange x → Accurate (exactFrom i t x) (rowFrom i t x)
+unfolding exactFrom rowFrom
+from-accurate t i x at r = go (eqb (periodAt i) t) refl
   where
-    i : ℕ
-    i = lastUpTo t
-
-    at : Placed t i
-    at = placed t l h
-
-    go :
-        (b : Bool) → eqb (periodAt (lastUpTo t)) t ≡ b
-        → Accurate
-        (elim b [
-          | true ↦ exactOf (lastUpTo t) x
-          | false ↦ lineExact (weight t (periodAt (lastUpTo t)) (periodAt (lastUpTo t + 1))) (exactOf (lastUpTo t) x) (exactOf (lastUpTo t + 1) x)
-        ])
-        (elim b [
-          | true ↦ rowFixed (lastUpTo t) x
-          | false ↦ drawnReport (drawnFixed (weightFixed t (periodAt (lastUpTo t)) (periodAt (lastUpTo t + 1))) (fineFixed (lastUpTo t) x) (fineFixed (lastUpTo t + 1) x))
-        ])
-    go true e = demand-3 i x (le-trans (at .below) (lit≤ tt)) r
-    go false e =
+    between :
+        eqb (periodAt i) t ≡ false
+        → Accurate (lineExact (weight t (periodAt i) (periodAt (i + 1))) (exactOf i x) (exactOf (i + 1) x))
+        (drawnReport (drawnFixed (weightFixed t (periodAt i) (periodAt (i + 1))) (fineFixed i x) (fineFixed (i + 1) x)))
+    between e =
         let k : i < 20 = at .next-below e in
         let g = gap-at i k in
-        let high : t ≤ periodAt (i + 1) = le-of-lt (at .high e) in
+        let t1 : ℕ = periodAt i in
+        let t2 : ℕ = periodAt (i + 1) in
+        let high : t ≤ t2 = le-of-lt (at .high e) in
         let first : i < 24 = omega (arith, k) in
         let second : i + 1 < 24 = omega (arith, k) in
-        line-accurate (weightFixed t (periodAt i) (periodAt (i + 1))) (weight t (periodAt i) (periodAt (i + 1)))
-        (weightFixed-one t (periodAt i) (periodAt (i + 1)) (g .some) (at .low) high (g .wide) (g .apart))
-        (weight-one t (periodAt i) (periodAt (i + 1)) (g .some) (at .low) high (g .wide) (g .apart))
-        (weight-near t (periodAt i) (periodAt (i + 1)) (g .some) (at .low) high (g .wide) (g .apart)) (exactOf i x) (exactOf (i + 1) x)
-        (fineFixed i x) (fineFixed (i + 1) x) (fine-near i x first r) (fine-near (i + 1) x second r) (fine-in-range i x first r)
+        line-accurate (weightFixed t t1 t2) (weight t t1 t2) (weightFixed-one t t1 t2 (g .some) (at .low) high (g .wide) (g .apart))
+        (weight-one t t1 t2 (g .some) (at .low) high (g .wide) (g .apart))
+        (weight-near t t1 t2 (g .some) (at .low) high (g .wide) (g .apart)) (exactOf i x) (exactOf (i + 1) x) (fineFixed i x)
+        (fineFixed (i + 1) x) (fine-near i x first r) (fine-near (i + 1) x second r) (fine-in-range i x first r)
         (fine-in-range (i + 1) x second r)
+
+    go :
+        (b : Bool) → eqb (periodAt i) t ≡ b
+        → Accurate
+        (elim b [
+          | true ↦ exactOf i x
+          | false ↦ lineExact (weight t (periodAt i) (periodAt (i + 1))) (exactOf i x) (exactOf (i + 1) x)
+        ])
+        (elim b [
+          | true ↦ rowFixed i x
+          | false ↦ drawnReport (drawnFixed (weightFixed t (periodAt i) (periodAt (i + 1))) (fineFixed i x) (fineFixed (i + 1) x))
+        ])
+    go true e = demand-3 i x (le-trans (at .below) (lit≤ tt)) r
+    go false e = between e
+
+pub period-accurate : (t : ℕ) (x : Scenario) → 10 ≤ t → t ≤ 10000 → InRange x → Accurate (exactAt t x) (rowAt t x)
+unfolding exactAt rowAt
+period-accurate t x l h r = from-accurate t (lastUpTo t) x (placed t l h) r

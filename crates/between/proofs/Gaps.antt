@@ -14,6 +14,7 @@ use Rattle.exact.proofs.Computed.{run, run-from}
 use Rattle.tables.specs.Tables.{periods}
 use Rattle.model.proofs.Fair.{leAll, LeAll, le-all}
 use Rattle.between.specs.Periods.{periodAt, reached, lastUpTo}
+use Rattle.between.specs.Fixed.{Gap}
 
 -- ---- how far a list is reached
 reached-low : (ps : List ℕ) (t i : ℕ) → i < reached ps t → getD ps i 0 ≤ t
@@ -98,12 +99,6 @@ placed t l h =
                 absurd (eqb-false 10000 t f' (omega arith))
 
 -- ---- the twenty gaps
-pub record Gap (t1 t2 : ℕ) : Type 0 where
-  pub some : 1 ≤ t1
-  pub apart : 6 * t1 ≤ 5 * t2
-  pub wide : t2 ≤ 2 * t1
-  pub top : t2 ≤ 10000
-
 gapFacts : ℕ → List (ℕ × ℕ)
 gapFacts i =
     (1, periodAt i) ∷ (6 * periodAt i, 5 * periodAt (i + 1)) ∷ (periodAt (i + 1), 2 * periodAt i) ∷ (periodAt (i + 1), 10000) ∷ []

@@ -5,3 +5,4 @@ pub mod Gaps
 pub mod Sigma
 pub mod Accurate
 pub mod Tabulated
+pub mod Sizes

@@ -1,7 +1,8 @@
--- At a tabulated period the row is that row: the exact one and the one that is reported. Assumes nothing.
+-- At a tabulated period the row is that row, the exact one and the one that is reported; elsewhere the one that is reported is drawn
+-- between its neighbours. Assumes nothing.
 use Prim.Native.Nat.{ℕ, _+_, _<_, zero-le}
-use mathlib.Core.Path.{_≡_, refl, ap, _∙_}
-use mathlib.Core.Bool.{Bool, true, false}
+use mathlib.Core.Path.{_≡_, refl, sym, ap, _∙_}
+use mathlib.Core.Bool.{Bool, false}
 use native.Mathlib.Omega.{arith}
 use lib.Dec.{T, eqb, eqb→eq}
 use borrow.Author.Tests.{eq-eqb}
@@ -9,8 +10,8 @@ use Rattle.exact.proofs.Computed.{run, run-from}
 use Rattle.model.specs.declared.Scenario.{Scenario}
 use Rattle.model.specs.Accuracy.{exactOf}
 use Rattle.model.specs.Fixed.{fineFixed, rowFixed}
-use Rattle.between.specs.Periods.{periodAt, lastUpTo, weight, lineExact, exactAt}
-use Rattle.between.specs.Fixed.{weightFixed, drawnFixed, drawnReport, rowAt}
+use Rattle.between.specs.Periods.{periodAt, lastUpTo, exactFrom, exactAt}
+use Rattle.between.specs.Fixed.{weightFixed, drawnFixed, drawnReport, rowFrom, rowAt}
 
 -- its measure is the last that it reaches
 itself : ℕ → Bool
@@ -25,28 +26,34 @@ last-at : (i : ℕ) → i < 21 → lastUpTo (periodAt i) ≡ i
 unfolding itself
 last-at i h = eqb→eq (lastUpTo (periodAt i)) i (run-from itself 0 21 all-themselves i zero-le (omega arith))
 
--- what is chosen by a test that a period passes
-passed : {A : Type 0} (t : ℕ) (a b : A) → elim (eqb t t) [ true ↦ a | false ↦ b ] ≡ a
-passed t a b = rw (eq-eqb t t refl)
+-- ---- the row, by the measure i of the last period that is not longer
+pub row-at : (t i : ℕ) (x : Scenario) → i ≡ lastUpTo t → periodAt i ≡ t → rowFixed i x ≡ rowAt t x
+unfolding rowAt rowFrom
+row-at t i x e f = at-once ∙ ap (λ (k : ℕ). rowFrom k t x) e
+  where
+    at-once : rowFixed i x ≡ rowFrom i t x
+    at-once = rw (rowFrom, eq-eqb (periodAt i) t f)
 
+pub row-between :
+    (t i : ℕ) (x : Scenario) → i ≡ lastUpTo t → eqb (periodAt i) t ≡ false
+    → drawnReport (drawnFixed (weightFixed t (periodAt i) (periodAt (i + 1))) (fineFixed i x) (fineFixed (i + 1) x)) ≡ rowAt t x
+unfolding rowAt rowFrom
+row-between t i x e f = at-once ∙ ap (λ (k : ℕ). rowFrom k t x) e
+  where
+    at-once :
+        drawnReport (drawnFixed (weightFixed t (periodAt i) (periodAt (i + 1))) (fineFixed i x) (fineFixed (i + 1) x)) ≡ rowFrom i t x
+    at-once = rw (rowFrom, f)
+
+exact-at : (t i : ℕ) (x : Scenario) → i ≡ lastUpTo t → periodAt i ≡ t → exactOf i x ≡ exactAt t x
+unfolding exactAt exactFrom
+exact-at t i x e f = at-once ∙ ap (λ (k : ℕ). exactFrom k t x) e
+  where
+    at-once : exactOf i x ≡ exactFrom i t x
+    at-once = rw (exactFrom, eq-eqb (periodAt i) t f)
+
+-- ---- at a tabulated period
 pub tabulated-row : (i : ℕ) (x : Scenario) → i < 21 → rowAt (periodAt i) x ≡ rowFixed i x
-unfolding rowAt
-tabulated-row i x h =
-    ap
-    (λ (k : ℕ). elim (eqb (periodAt k) (periodAt i)) [
-      | true ↦ rowFixed k x
-      | false ↦ drawnReport (drawnFixed (weightFixed (periodAt i) (periodAt k) (periodAt (k + 1))) (fineFixed k x) (fineFixed (k + 1) x))
-    ])
-    (last-at i h)
-    ∙ passed (periodAt i) (rowFixed i x) _
+tabulated-row i x h = sym (row-at (periodAt i) i x (sym (last-at i h)) refl)
 
 pub tabulated-exact : (i : ℕ) (x : Scenario) → i < 21 → exactAt (periodAt i) x ≡ exactOf i x
-unfolding exactAt
-tabulated-exact i x h =
-    ap
-    (λ (k : ℕ). elim (eqb (periodAt k) (periodAt i)) [
-      | true ↦ exactOf k x
-      | false ↦ lineExact (weight (periodAt i) (periodAt k) (periodAt (k + 1))) (exactOf k x) (exactOf (k + 1) x)
-    ])
-    (last-at i h)
-    ∙ passed (periodAt i) (exactOf i x) _
+tabulated-exact i x h = sym (exact-at (periodAt i) i x (sym (last-at i h)) refl)

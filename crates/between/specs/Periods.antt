@@ -61,12 +61,13 @@ lineExact w e f =
       arbitrary = sigmaOnLine w (e .arbitrary) (f .arbitrary);
     }
 
--- at a period
+-- at a period t, from the measure i of the last tabulated one that is not longer
+unfoldable pub exactFrom : ℕ → ℕ → Scenario → Exact
+unfolding weight lineExact exactOf
+exactFrom i t x = elim (eqb (periodAt i) t) [
+  | true ↦ exactOf i x
+  | false ↦ lineExact (weight t (periodAt i) (periodAt (i + 1))) (exactOf i x) (exactOf (i + 1) x)
+]
+
 unfoldable pub exactAt : ℕ → Scenario → Exact
-unfolding lastUpTo weight lineExact exactOf
-exactAt t x =
-    let i : ℕ = lastUpTo t in
-    elim (eqb (periodAt i) t) [
-      | true ↦ exactOf i x
-      | false ↦ lineExact (weight t (periodAt i) (periodAt (i + 1))) (exactOf i x) (exactOf (i + 1) x)
-    ]
+exactAt t x = exactFrom (lastUpTo t) t x

@@ -1,2 +1,3 @@
 pub mod FilledRows
 pub mod LnFits
+pub mod OneRow

@@ -28,7 +28,7 @@ ghost use Rattle.model.specs.Rows.{shownOf, noRow, noShown};
 ghost use Rattle.sigmas.specs.Settling.{settledOf};
 
 // A median, at least 1.
-fn at_least_one(y: u64) -> u64
+pub fn at_least_one(y: u64) -> u64
     ensures { λ r. ⌜ r ≡ most 1 y ⌝ }
 {
     if 1 < y { y } else { 1 }
@@ -59,6 +59,18 @@ pub fn shown_of(f: Fine, d: Deviations, known: Settled) -> Shown
         median: at_least_one(exp_fixed(f.ln)),
         sigma: total_of(d, known, f.total),
     }
+}
+
+// The row of one measure.
+pub fn row_at(i: usize, x: Scenario) -> Row
+    requires { ⌜ (i < measures) × InRange x ⌝ }
+    ensures { λ r. ⌜ r ≡ rowFixed i x ⌝ }
+{
+    let table3 = all_deviations();
+    let settled = all_settled();
+    let d = table3[i];
+    let known = settled[i];
+    report_of(fine_at(i, x), d, known)
 }
 
 // What a sheet shows of one measure.

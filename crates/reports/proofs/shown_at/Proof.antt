@@ -1,13 +1,10 @@
 -- The measure's own row of Table 3, and its fine row, which is in range. Assumes nothing.
 use borrow.Author.Needs.{needs}
-use mathlib.Core.Path.{sym, ap, subst, _∙_}
-use Rattle.tables.proofs.RowsRead.{of-deviations, read-3}
+use mathlib.Core.Path.{ap, _∙_}
 use Rattle.model.specs.declared.Fine.{Fine}
-use Rattle.model.specs.Fixed.{report, rowFixed, FineInRange}
+use Rattle.model.specs.Fixed.{report, rowFixed}
 use Rattle.model.specs.Rows.{shownOf}
-use Rattle.model.proofs.Demand.{fine-in-range}
-use Rattle.sigmas.specs.Settling.{settledOf}
-use Rattle.sigmas.proofs.SettledRows.{read-settled}
+use Rattle.reports.proofs.OneRow.{one-row}
 use Rattle.reports.proofs.shown_at.Statement.{statement}
 use Rattle.reports.proofs.shown_at.Tie as tie
 
@@ -37,12 +34,7 @@ shown-of-requires c κs =
     let t = c .before .before .before in
     let d = t .before in
     let s = d .before in
-    let i = s .args .i in
-    let row = read-3 i (d .all-deviations .ensures) in (
-      subst FineInRange (sym (c .fine-at .ensures)) (fine-in-range i (s .args .x) (s .pre .0) (s .pre .1)),
-      of-deviations i _ (s .pre .0) row,
-      read-settled i (t .all-settled .ensures) ∙ ap settledOf (sym row),
-    )
+    one-row (s .args .i) (s .args .x) (s .pre .0) (s .pre .1) (d .all-deviations .ensures) (t .all-settled .ensures) (c .fine-at .ensures)
 
 returns : tie.Need-returns
 unfolding rowFixed

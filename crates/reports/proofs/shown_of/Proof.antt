@@ -14,12 +14,12 @@ round-div-requires : tie.Need-round-div-requires
 round-div-requires c κs =
     let s = c .before in
     let f = s .args .f in
-    simp (toZ-ofZ (ln-fits f (s .pre .0))) (omega (arith, ln-abs f (s .pre .0)), lit≤ tt, lit≤ tt)
+    simp (toZ-ofZ (ln-fits (f .ln) (s .pre .0 .ln-low) (s .pre .0 .ln-high))) (omega (arith, ln-abs (f .ln) (s .pre .0 .ln-low) (s .pre .0 .ln-high)), lit≤ tt, lit≤ tt)
 
 exp-fixed-requires : tie.Need-exp-fixed-requires
 exp-fixed-requires c κs =
     let s = c .before .before .before in
-    simp (toZ-ofZ (ln-fits (s .args .f) (s .pre .0)))
+    simp (toZ-ofZ (ln-fits (s .args .f .ln) (s .pre .0 .ln-low) (s .pre .0 .ln-high)))
     (le-trans (s .pre .0 .ln-high) (lit≤ tt), le-trans (s .pre .0 .ln-low) (lit≤ tt))
 
 at-least-one-requires : tie.Need-at-least-one-requires
@@ -41,8 +41,8 @@ returns c =
       o .at-least-one .ensures,
       e .exp-fixed .ensures,
       c .total-of .ensures,
-      toZ-ofZ (ln-fits f (s .pre .0)),
-      toZ-ofZ (nearest-fits f (s .pre .0)),
+      toZ-ofZ (ln-fits (f .ln) (s .pre .0 .ln-low) (s .pre .0 .ln-high)),
+      toZ-ofZ (nearest-fits (f .ln) (s .pre .0 .ln-low) (s .pre .0 .ln-high)),
     )
 
 pub shown-of-spec : {M : Type 1} → statement M
