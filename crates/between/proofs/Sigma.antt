@@ -84,9 +84,9 @@ pub fineSigma-low : (v : ℕ) → 89999000 ≤ v → 299998333 ≤ fineSigma v
 unfolding fineSigma
 fineSigma-low v h = let k : 299998333 < root (v * E9) + 1 = side-lt 299998333 (root (v * E9) + 1) (omega (arith, root-is (v * E9) .high)) in omega arith
 
-pub fineSigma-high : (v : ℕ) → v ≤ 2400000000 → fineSigma v < 1600000000
+pub fineSigma-high : (v : ℕ) → v ≤ 2400000000 → fineSigma v < 1549200000
 unfolding fineSigma
-fineSigma-high v h = side-lt (root (v * E9)) 1600000000 (omega (arith, root-is (v * E9) .low))
+fineSigma-high v h = side-lt (root (v * E9)) 1549200000 (omega (arith, root-is (v * E9) .low))
 
 pub fineSigma-near : (v s : ℕ) → RootNear v s → NearZ K21 485 (pos (fineSigma v)) (pos s)
 unfolding fineSigma rootE

@@ -1,4 +1,4 @@
--- How large a row between two fine ones is: ln median lies where the two do, a sigma is at most 1.6. Assumes nothing.
+-- How large a row between two fine ones is: ln median lies where the two do, a sigma is at most 1.55. Assumes nothing.
 use Prim.Native.Nat.{ℕ, zero, suc, _*_, _≤_, zero-le}
 use mathlib.Core.Path.{_≡_}
 use native.Mathlib.Omega.{arith}
@@ -14,13 +14,13 @@ use Rattle.between.proofs.Line.{line-inside}
 use Rattle.between.proofs.Sigma.{fineSigma-high}
 
 module _ (w : ℕ) (hw : w ≤ E9) where
-  plain-high : (a b : ℕ) → a ≤ 1600000000 → b ≤ 1600000000 → up (onLineFixed w (pos a) (pos b)) ≤ 1600000000
-  plain-high a b ha hb = line-inside w (pos a) (pos b) 1600000000 0 hw ha hb zero-le zero-le .0
+  plain-high : (a b : ℕ) → a ≤ 1549200000 → b ≤ 1549200000 → up (onLineFixed w (pos a) (pos b)) ≤ 1549200000
+  plain-high a b ha hb = line-inside w (pos a) (pos b) 1549200000 0 hw ha hb zero-le zero-le .0
 
-  sigma-high : (v u : ℕ) → v ≤ 2400000000 → u ≤ 2400000000 → sigmaOnLineFixed w v u ≤ 1600000000
+  sigma-high : (v u : ℕ) → v ≤ 2400000000 → u ≤ 2400000000 → sigmaOnLineFixed w v u ≤ 1549200000
   sigma-high v u hv hu = plain-high (fineSigma v) (fineSigma u) (le-of-lt (fineSigma-high v hv)) (le-of-lt (fineSigma-high u hu))
 
-  inter-high : (t : ℕ) → t ≤ 500 → t * 1000000 ≤ 1600000000
+  inter-high : (t : ℕ) → t ≤ 500 → t * 1000000 ≤ 1549200000
   inter-high t h = omega arith
 
   pub drawn-in-range : (f g : Fine) → FineInRange f → FineInRange g → DrawnInRange (drawnFixed w f g)

@@ -2,7 +2,7 @@
 -- between its neighbours. Assumes nothing.
 use Prim.Native.Nat.{ℕ, _+_, _<_, zero-le}
 use mathlib.Core.Path.{_≡_, refl, sym, ap, _∙_}
-use mathlib.Core.Bool.{Bool, false}
+use mathlib.Core.Bool.{Bool, true, false}
 use native.Mathlib.Omega.{arith}
 use lib.Dec.{T, eqb, eqb→eq}
 use borrow.Author.Tests.{eq-eqb}
@@ -10,7 +10,7 @@ use Rattle.exact.proofs.Computed.{run, run-from}
 use Rattle.model.specs.declared.Scenario.{Scenario}
 use Rattle.model.specs.Accuracy.{exactOf}
 use Rattle.model.specs.Fixed.{fineFixed, rowFixed}
-use Rattle.between.specs.Periods.{periodAt, lastUpTo, exactFrom, exactAt}
+use Rattle.between.specs.Periods.{covered, periodAt, lastUpTo, exactFrom, exactAt}
 use Rattle.between.specs.Fixed.{weightFixed, drawnFixed, drawnReport, rowFrom, rowAt}
 
 -- its measure is the last that it reaches
@@ -52,6 +52,16 @@ exact-at t i x e f = at-once ∙ ap (λ (k : ℕ). exactFrom k t x) e
     at-once = rw (exactFrom, eq-eqb (periodAt i) t f)
 
 -- ---- at a tabulated period
+all-covered : T (run (λ (i : ℕ). covered (periodAt i)) 0 21)
+all-covered = tt
+
+is-true : (b : Bool) → T b → b ≡ true
+is-true true t = refl
+is-true false t = absurd t
+
+pub tabulated-covered : (i : ℕ) → i < 21 → covered (periodAt i) ≡ true
+tabulated-covered i h = is-true (covered (periodAt i)) (run-from (λ (k : ℕ). covered (periodAt k)) 0 21 all-covered i zero-le (omega arith))
+
 pub tabulated-row : (i : ℕ) (x : Scenario) → i < 21 → rowAt (periodAt i) x ≡ rowFixed i x
 tabulated-row i x h = sym (row-at (periodAt i) i x (sym (last-at i h)) refl)
 

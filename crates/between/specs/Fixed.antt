@@ -55,14 +55,14 @@ drawnFixed w f g =
       arbitrary = sigmaOnLineFixed w (f .arbitrary) (g .arbitrary);
     }
 
--- how large such a row is: ln median from -15 to 13 and 400 units, a sigma at most 1.6
+-- how large such a row is: ln median from -15 to 13 and 400 units, a sigma at most 1.55
 pub record DrawnInRange (d : Drawn) : Type 0 where
   pub ln-low : dn (d .ln) ≤ 15000000400
   pub ln-high : up (d .ln) ≤ 13000000400
-  pub intra-high : d .intra ≤ 1600000000
-  pub inter-high : d .inter ≤ 1600000000
-  pub total-high : d .total ≤ 1600000000
-  pub arbitrary-high : d .arbitrary ≤ 1600000000
+  pub intra-high : d .intra ≤ 1549200000
+  pub inter-high : d .inter ≤ 1549200000
+  pub total-high : d .total ≤ 1549200000
+  pub arbitrary-high : d .arbitrary ≤ 1549200000
 
 -- a sigma to the nearest millionth
 abbrev pub toMillionths : ℕ → ℕ

@@ -4,7 +4,7 @@
 use Prim.Native.Nat.{ℕ, _+_, _*_, _/_, _≤_, _<_}
 use mathlib.Core.Path.{_≡_, refl}
 use native.Mathlib.Omega.{arith}
-use native.Mathlib.Nat.{le-refl, le-trans, mul-le-mul, mul-le-mul-right, add-le-add, le-add-right}
+use native.Mathlib.Nat.{le-refl, le-trans, mul-le-mul, mul-le-mul-right, mul-assoc, add-le-add, le-add-right}
 use lib.Dec.{lit≤}
 use lib.IntN.{ℤ, pos}
 use Rattle.exact.specs.Near.{up, dn, NearZ}
@@ -15,7 +15,7 @@ use Rattle.model.specs.declared.Scenario.{Scenario}
 use Rattle.model.specs.Equations.{E24, alpha, intraVariance, median, intra, total, arbitrary, rockPGA, joined, inter}
 use Rattle.model.specs.Accuracy.{InRange, exactOf, Accurate}
 use Rattle.exact.proofs.Signed.{by-sign}
-use Rattle.model.specs.Fixed.{squaredFixed, alphaFixed, varianceFixed, ownFixed, raised, fineFixed, rowFixed, rockPGAFixed, intraVarianceFixed, FineInRange}
+use Rattle.model.specs.Fixed.{squaredFixed, alphaFixed, varianceFixed, ownFixed, raised, fineFixed, report, rowFixed, rockPGAFixed, intraVarianceFixed, FineInRange}
 use Rattle.model.proofs.Alpha.{alpha-near, alphaLow, alpha-between}
 use Rattle.model.specs.FineNear.{Between, RootNear, FineNear}
 use Rattle.model.proofs.SigmaNear.{joined-near}
@@ -170,3 +170,8 @@ module _ (i : ℕ) (x : Scenario) (h : i < 24) (r : InRange x) where
   pub demand-3 : Accurate (exactOf i x) (rowFixed i x)
   unfolding rowFixed
   demand-3 = report-accurate (exactOf i x) (fineFixed i x) fine-near
+
+-- the inter-event sigma is Table 3's number itself
+pub inter-exact : (i : ℕ) (x : Scenario) → rowFixed i x .inter * E24 ≡ exactOf i x .inter
+unfolding rowFixed report fineFixed raised ownFixed exactOf inter
+inter-exact i x = mul-assoc (deviationsAt i .t) 1000 E24

@@ -158,6 +158,14 @@ pub sigma-reported : (v s : ℕ) → RootNear v s → NearZ E24 1 (pos (sigmaOf 
 sigma-reported v s n =
     subst (λ (t : ℕ). NearZ E24 1 (pos (sigmaOf v)) (pos t)) (sym (n .is)) (sigma-near 290 v (n .under) (lit≤ tt) (n .least) (n .near))
 
+-- the fine ln median of a row, as near as is asked above
+fine-ln : (e : Exact) (f : Fine) → FineNear e f → NearZ K21 500 (f .ln) (e .ln)
+fine-ln e f n = near-wide K21 400 500 (f .ln) (e .ln) (lit≤ tt) (n .ln-near)
+
+pub report-fits : (e : Exact) (f : Fine) → FineNear e f → report f .median < 2 ^ 53
+unfolding report
+report-fits e f n = median-fits (f .ln) (e .ln) (fine-ln e f n) (n .ln-between)
+
 pub report-accurate : (e : Exact) (f : Fine) → FineNear e f → Accurate e (report f)
 unfolding report
 report-accurate e f n =
@@ -165,7 +173,7 @@ report-accurate e f n =
     let x : ℤ = e .ln in
     let m = sym (n .median-is) in
     let p : ℕ = most 1 (expFixed s) in
-    let near : NearZ K21 500 s x = near-wide K21 400 500 s x (lit≤ tt) (n .ln-near) in
+    let near : NearZ K21 500 s x = fine-ln e f n in
     record {
       ln-near = report-near (lit≤ tt) near;
       median-one = median-one s x near (n .ln-between);

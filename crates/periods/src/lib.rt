@@ -23,11 +23,23 @@ ghost use Rattle.exact.specs.Near.{up};
 ghost use Rattle.fixed.specs.Fixed.{E9};
 ghost use Rattle.model.specs.Accuracy.{InRange};
 ghost use Rattle.model.specs.Fixed.{FineInRange};
-ghost use Rattle.between.specs.Periods.{lastUpTo};
+ghost use Rattle.between.specs.Periods.{covered, lastUpTo};
 ghost use Rattle.between.specs.Fixed.{weightFixed, onLineFixed, fineSigma, sigmaOnLineFixed, drawnFixed, toMillionths, drawnReport, rowAt, Gap, DrawnInRange};
 
 // A quarter of one, in units of 10^-9.
 const QUARTER: i64 = 250_000_000;
+
+// The shortest and the longest tabulated period, in thousandths of a second.
+const SHORTEST: u64 = 10;
+
+const LONGEST: u64 = 10_000;
+
+// Whether a period lies between these two, or is one of them.
+pub fn is_covered(t: u64) -> bool
+    ensures { λ b. ⌜ b ≡ covered t ⌝ }
+{
+    SHORTEST <= t && t <= LONGEST
+}
 
 // The measure of the last tabulated period that is not longer than t.
 fn last_up_to(t: u64) -> usize
@@ -64,8 +76,8 @@ fn on_line(w: u64, a: i64, b: i64) -> i64
 
 // The same of two numbers without a sign.
 fn plain_on_line(w: u64, a: u64, b: u64) -> u64
-    requires { ⌜ (w ≤ E9) × (a ≤ 1600000000) × (b ≤ 1600000000) ⌝ }
-    ensures { λ r. ⌜ (r ≡ up (onLineFixed w (pos a) (pos b))) × (r ≤ 1600000000) ⌝ }
+    requires { ⌜ (w ≤ E9) × (a ≤ 1549200000) × (b ≤ 1549200000) ⌝ }
+    ensures { λ r. ⌜ (r ≡ up (onLineFixed w (pos a) (pos b))) × (r ≤ 1549200000) ⌝ }
 {
     on_line(w, a as i64, b as i64) as u64
 }
@@ -73,7 +85,7 @@ fn plain_on_line(w: u64, a: u64, b: u64) -> u64
 // A sigma from its variance.
 fn fine_sigma(v: u64) -> u64
     requires { ⌜ v ≤ 2400000000 ⌝ }
-    ensures { λ s. ⌜ (s ≡ fineSigma v) × (s ≤ 1600000000) ⌝ }
+    ensures { λ s. ⌜ (s ≡ fineSigma v) × (s ≤ 1549200000) ⌝ }
 {
     whole_root(v * E9)
 }
@@ -81,7 +93,7 @@ fn fine_sigma(v: u64) -> u64
 // The sigma on the line between those of two variances.
 fn sigma_on_line(w: u64, v: u64, u: u64) -> u64
     requires { ⌜ (w ≤ E9) × (v ≤ 2400000000) × (u ≤ 2400000000) ⌝ }
-    ensures { λ s. ⌜ (s ≡ sigmaOnLineFixed w v u) × (s ≤ 1600000000) ⌝ }
+    ensures { λ s. ⌜ (s ≡ sigmaOnLineFixed w v u) × (s ≤ 1549200000) ⌝ }
 {
     plain_on_line(w, fine_sigma(v), fine_sigma(u))
 }
@@ -102,7 +114,7 @@ fn drawn_between(w: u64, f: Fine, g: Fine) -> Drawn
 
 // A sigma to the nearest millionth.
 fn to_millionths(s: u64) -> u64
-    requires { ⌜ s ≤ 1600000000 ⌝ }
+    requires { ⌜ s ≤ 1549200000 ⌝ }
     ensures { λ r. ⌜ r ≡ toMillionths s ⌝ }
 {
     (s + 500) / 1_000

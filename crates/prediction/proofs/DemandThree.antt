@@ -1,7 +1,7 @@
 -- Demand 3 for a request: every row of an accepted request's spectrum is as near the exact values as `Accurate` says, and a refused
 -- one has its number and zeros in all 24 rows. So no spectrum given always, no row copied and no row left zero passes. Assumes
 -- nothing.
-use Prim.Native.Nat.{ℕ, _<_}
+use Prim.Native.Nat.{ℕ, _*_, _<_}
 use mathlib.Core.Path.{_≡_, refl, sym, ap, subst}
 use lib.ListN.{length, getD, length-replicate, getD-replicate}
 use Rattle.request.specs.declared.Request.{Request}
@@ -11,7 +11,8 @@ use Rattle.outcome.specs.Answers.{completionOf, numberOf}
 use Rattle.model.specs.declared.Row.{Row}
 use Rattle.model.specs.Rows.{shownOf, noRow, noShown}
 use Rattle.model.specs.Accuracy.{exactOf, Accurate}
-use Rattle.model.proofs.Demand.{demand-3}
+use Rattle.model.specs.Equations.{E24}
+use Rattle.model.proofs.Demand.{demand-3, inter-exact}
 use Rattle.prediction.specs.declared.Spectrum.{Spectrum}
 use Rattle.prediction.specs.Spectra.{scenarioOf, refusedWith, spectrumFor, spectrumOf, shownSpectrum, shownSpectrumOf}
 use Rattle.prediction.specs.Sizes.{Small, ShownSmall}
@@ -24,6 +25,12 @@ pub accepted-rows :
     → Accurate (exactOf k (scenarioOf c)) (getD (spectrumOf r .rows) k noRow)
 accepted-rows r c k e h =
     rw (spectrum-done r c e, row-is (scenarioOf c) k h) (demand-3 k (scenarioOf c) h (in-range r c e))
+
+-- the inter-event sigma of each is the exact one
+pub accepted-inter :
+    (r : Request) (c : Completed) (k : ℕ) → completionOf r ≡ C.Done c → k < 24
+    → getD (spectrumOf r .rows) k noRow .inter * E24 ≡ exactOf k (scenarioOf c) .inter
+accepted-inter r c k e h = rw (spectrum-done r c e, row-is (scenarioOf c) k h) (inter-exact k (scenarioOf c))
 
 -- ---- refused
 pub refused-number : (r : Request) (n : ℕ) → completionOf r ≡ C.Refused n → spectrumOf r .refusal ≡ n

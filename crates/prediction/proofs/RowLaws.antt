@@ -20,7 +20,7 @@ use Rattle.model.specs.Fixed.{fineFixed, report, rowFixed, FineInRange}
 use Rattle.model.specs.Rows.{shownOf, noRow, noShown}
 use Rattle.model.specs.Accuracy.{InRange, Exact, exactOf}
 use Rattle.model.specs.FineNear.{FineNear}
-use Rattle.model.proofs.Reported.{median-fits}
+use Rattle.model.proofs.Reported.{report-fits}
 use Rattle.model.proofs.Demand.{fine-near, fine-in-range}
 use Rattle.model.proofs.Sizes.{ln-size, sigma-size}
 use Rattle.prediction.specs.Spectra.{scenarioOf, rowsFrom, rowsOf, refusedWith, spectrumFor, spectrumOf}
@@ -104,7 +104,7 @@ unfolding report
 report-small e f n r =
     record {
       ln = ln-size (f .ln) (r .ln-low) (r .ln-high);
-      median = median-fits (f .ln) (e .ln) (n .ln-near) (n .ln-between);
+      median = report-fits e f n;
       intra = sigma-size (f .intra) (r .intra-high);
       inter = omega (arith, r .t-high);
       total = sigma-size (f .total) (r .total-high);

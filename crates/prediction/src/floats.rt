@@ -46,7 +46,7 @@ pub fn of_int(n: i64) -> f64
 }
 
 // One row.
-fn float_row(r: Row) -> FloatRow
+pub fn float_row(r: Row) -> FloatRow
     requires { ⌜ Small r ⌝ }
     ensures { λ f. ⌜ (f ≡ floatsOf r) × Same f r ⌝ }
 {

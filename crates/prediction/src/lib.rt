@@ -10,6 +10,7 @@ use completion::complete;
 use completion::number_of;
 pub use floats::FloatRow;
 pub use floats::FloatSpectrum;
+pub use floats::float_row;
 pub use floats::predict_floats;
 pub use measure::OneMeasure;
 pub use measure::predict_measure;
@@ -31,7 +32,7 @@ pub struct Spectrum {
 }
 
 // The completed figures that the model reads.
-fn scenario_of(c: Completed) -> Scenario
+pub fn scenario_of(c: Completed) -> Scenario
     ensures { λ r. ⌜ r ≡ scenarioOf c ⌝ }
 {
     let rake = c.rake;

@@ -20,7 +20,7 @@ returns c =
     let s = c .before in
     let e = c .whole-root .ensures in (
       e,
-      subst (λ (n : ℕ). n ≤ 1600000000) (sym e) (le-of-lt (fineSigma-high (s .args .v) (s .pre))),
+      subst (λ (n : ℕ). n ≤ 1549200000) (sym e) (le-of-lt (fineSigma-high (s .args .v) (s .pre))),
     )
 
 pub fine-sigma-spec : {M : Type 1} → statement M

@@ -18,15 +18,15 @@ use Rattle.periods.proofs.LineFits.{Steps, steps}
 use Rattle.periods.proofs.plain_on_line.Statement.{statement}
 use Rattle.periods.proofs.plain_on_line.Tie as tie
 
-module _ (w a b : ℕ) (hw : w ≤ E9) (ha : a ≤ 1600000000) (hb : b ≤ 1600000000) where
+module _ (w a b : ℕ) (hw : w ≤ E9) (ha : a ≤ 1549200000) (hb : b ≤ 1549200000) where
   line-steps : Steps w (pos a) (pos b)
   line-steps = steps w (pos a) (pos b) hw (le-trans ha (lit≤ tt)) (le-trans hb (lit≤ tt))
 
   size-is : natAbs (onLineFixed w (pos a) (pos b)) ≡ up (onLineFixed w (pos a) (pos b))
   size-is = omega (arith, abs-parts (onLineFixed w (pos a) (pos b)), line-plain w a b hw)
 
-  size-le : up (onLineFixed w (pos a) (pos b)) ≤ 1600000000
-  size-le = line-inside w (pos a) (pos b) 1600000000 0 hw ha hb (lit≤ tt) (lit≤ tt) .0
+  size-le : up (onLineFixed w (pos a) (pos b)) ≤ 1549200000
+  size-le = line-inside w (pos a) (pos b) 1549200000 0 hw ha hb (lit≤ tt) (lit≤ tt) .0
 
 -- what the call returned
 is :
@@ -60,7 +60,7 @@ returns c =
     let f = line-steps (s .args .w) (s .args .a) (s .args .b) (s .pre .0) (s .pre .1) (s .pre .2) in
     let e = size-is (s .args .w) (s .args .a) (s .args .b) (s .pre .0) (s .pre .1) (s .pre .2) in
     simp (is c, toZ-ofZ (f .line))
-    (e, subst (λ (n : ℕ). n ≤ 1600000000) (sym e) (size-le (s .args .w) (s .args .a) (s .args .b) (s .pre .0) (s .pre .1) (s .pre .2)))
+    (e, subst (λ (n : ℕ). n ≤ 1549200000) (sym e) (size-le (s .args .w) (s .args .a) (s .args .b) (s .pre .0) (s .pre .1) (s .pre .2)))
 
 pub plain-on-line-spec : {M : Type 1} → statement M
 plain-on-line-spec =
