@@ -9,15 +9,17 @@ use borrow.Author.Tests.{eq-eqb, ne-eqb, ltb-true, ltb-false}
 use lib.Dec.{ltb}
 use lib.ListN.{length, getD, length-append}
 use Rattle.tables.specs.Tables.{measures}
+use Rattle.model.specs.declared.Row.{Row}
 use Rattle.model.specs.declared.Shown.{Shown}
-use Rattle.model.specs.Rows.{noShown}
+use Rattle.model.specs.Rows.{shownOf, noShown}
 use Rattle.prediction.specs.declared.shown.ShownSpectrum.{ShownSpectrum}
+use Rattle.one_period.specs.declared.OnePeriod.the-variants as P
 use Rattle.lent.specs.Lent.{Written}
 use Rattle.lent.proofs.PutLaws.{room-after, then}
 use Rattle.numerals.specs.Render.{lf, space, render, renderSigned}
 use Rattle.numerals.proofs.RenderLaws.{length-ended}
 use Rattle.lines.specs.Lines.{noLine}
-use Rattle.answer.specs.RowLines.{rowLine, rowLines, spectrumLines}
+use Rattle.answer.specs.RowLines.{rowLine, rowLines, spectrumLines, periodLine}
 
 pub length-row :
     (k : ℕ) (r : Shown)
@@ -67,3 +69,12 @@ module _ (s : ShownSpectrum) where
   pub good-lines : s .refusal ≡ 0 → spectrumLines s ≡ rowLines measures (s .rows)
   unfolding spectrumLines
   good-lines h = rw (eq-eqb (s .refusal) 0 h)
+
+-- ---- the line of a period
+pub period-value : (t : ℕ) (w : Row) → periodLine t (P.Value w) ≡ rowLine t (shownOf w)
+unfolding periodLine
+period-value t w = refl
+
+pub period-number : (t n : ℕ) → periodLine t (P.Refused n) ≡ noLine n
+unfolding periodLine
+period-number t n = refl

@@ -6,12 +6,13 @@ use Rattle.refusals.specs.Order as No
 use Rattle.request.specs.declared.Request.{Request}
 use Rattle.outcome.specs.Answers.{completionOf}
 use Rattle.prediction.specs.Spectra.{shownSpectrumOf}
+use Rattle.one_period.specs.OnePeriods.{periodOf}
 use Rattle.text.specs.declared.read.Line.the-variants as L
 use Rattle.text.specs.Grammar.{lineOf}
 use Rattle.lines.specs.Lines.{noLine, completionLine}
 use Rattle.answer.specs.declared.Sheet.{Sheet}
 use Rattle.answer.specs.declared.Sheet.the-variants as S
-use Rattle.answer.specs.RowLines.{spectrumLines}
+use Rattle.answer.specs.RowLines.{spectrumLines, periodLine}
 use Rattle.answer.specs.Sheets.{answerTo}
 
 pub malformed-line : (sheet : Sheet) (s : List ℕ) → lineOf s ≡ L.Malformed → answerTo sheet s ≡ noLine No.malformed
@@ -26,3 +27,7 @@ module _ (s : List ℕ) (r : Request) (e : lineOf s ≡ L.Is r) where
   pub prediction-lines : answerTo S.Prediction s ≡ spectrumLines (shownSpectrumOf r)
   unfolding answerTo
   prediction-lines = rw e
+
+  pub period-lines : (t : ℕ) → answerTo (S.Period t) s ≡ periodLine t (periodOf r t)
+  unfolding answerTo
+  period-lines t = rw e

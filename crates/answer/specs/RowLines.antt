@@ -1,5 +1,5 @@
 -- The answer lines of the predicting program: 24 for an accepted request, "measure number, ln median, median and total sigma as the
--- reported whole numbers, single spaces, no header". Definitions only.
+-- reported whole numbers, single spaces, no header"; for one period a line, the period in the measure's place. Definitions only.
 use Prim.Native.Nat.{ℕ, zero, suc}
 use mathlib.Core.Bool.{cond}
 use mathlib.Core.List.{List, [], _∷_, _++_}
@@ -7,8 +7,10 @@ use lib.Dec.{eqb}
 use lib.ListN.{getD}
 use Rattle.tables.specs.Tables.{measures}
 use Rattle.model.specs.declared.Shown.{Shown}
-use Rattle.model.specs.Rows.{noShown}
+use Rattle.model.specs.Rows.{shownOf, noShown}
 use Rattle.prediction.specs.declared.shown.ShownSpectrum.{ShownSpectrum}
+use Rattle.one_period.specs.declared.OnePeriod.{OnePeriod}
+use Rattle.one_period.specs.declared.OnePeriod.the-variants as P
 use Rattle.numerals.specs.Render.{lf, space, renderSigned, ended}
 use Rattle.lines.specs.Lines.{noLine}
 
@@ -27,3 +29,9 @@ rowLines (suc k) rows = rowLines k rows ++ rowLine k (getD rows k noShown)
 unfoldable pub spectrumLines : ShownSpectrum → List ℕ
 unfolding rowLines noLine
 spectrumLines s = cond (eqb (s .refusal) 0) (rowLines measures (s .rows)) (noLine (s .refusal))
+
+-- the line of period t, or that of its refusal
+unfoldable pub periodLine : ℕ → OnePeriod → List ℕ
+unfolding rowLine shownOf noLine
+periodLine t (P.Value w) = rowLine t (shownOf w)
+periodLine t (P.Refused n) = noLine n

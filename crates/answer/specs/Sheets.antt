@@ -5,19 +5,21 @@ use Rattle.request.specs.declared.Request.{Request}
 use Rattle.outcome.specs.Answers.{completionOf}
 use Rattle.tables.specs.Tables.{measures}
 use Rattle.prediction.specs.Spectra.{shownSpectrumOf}
+use Rattle.one_period.specs.OnePeriods.{periodOf}
 use Rattle.text.specs.declared.read.Line.{Line}
 use Rattle.text.specs.declared.read.Line.the-variants as L
 use Rattle.text.specs.Grammar.{lineOf, numberOf}
 use Rattle.lines.specs.Lines.{noLine, completionLine}
 use Rattle.answer.specs.declared.Sheet.{Sheet}
 use Rattle.answer.specs.declared.Sheet.the-variants as S
-use Rattle.answer.specs.RowLines.{spectrumLines}
+use Rattle.answer.specs.RowLines.{spectrumLines, periodLine}
 
 -- the answer to a request
 unfoldable pub sheetOf : Sheet → Request → List ℕ
-unfolding completionLine completionOf spectrumLines
+unfolding completionLine completionOf spectrumLines periodLine
 sheetOf S.Completion r = completionLine (completionOf r)
 sheetOf S.Prediction r = spectrumLines (shownSpectrumOf r)
+sheetOf (S.Period t) r = periodLine t (periodOf r t)
 
 -- a malformed line is refused
 unfoldable pub replyOf : Sheet → Line → List ℕ
@@ -34,7 +36,12 @@ answerTo sheet s = replyOf sheet (lineOf s)
 abbrev pub longestLine : ℕ
 longestLine = 38
 
+-- nor is that of a period, of which the longest has three digits more than a measure
+abbrev pub longestPeriod : ℕ
+longestPeriod = 41
+
 -- and so no answer
 abbrev pub longestAnswer : Sheet → ℕ
 longestAnswer S.Completion = longestLine
 longestAnswer S.Prediction = measures * longestLine
+longestAnswer (S.Period t) = longestPeriod

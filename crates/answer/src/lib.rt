@@ -1,11 +1,14 @@
 // From the bytes of a request line to the bytes of its answer: read, worked out and written, one line
 // a call, as the sheet that is asked for shows it.
+mod period;
 mod rows;
 
 use completion::complete;
 use lent::Wrote;
 use lines::write_completion;
 use lines::write_no;
+use one_period::predict_period;
+pub use period::write_period;
 use prediction::predict_shown;
 use refusals::MALFORMED;
 pub use rows::write_spectrum;
@@ -14,10 +17,12 @@ use text::read_line;
 ghost use Rattle.lent.specs.Lent.{LentWritten};
 ghost use Rattle.answer.specs.Sheets.{answerTo};
 
-// Which answers are asked for: the completed figures, or the rows of the measures.
+// Which answers are asked for: the completed figures, the rows of the measures, or the row at a period in
+// thousandths of a second.
 pub enum Sheet {
     Completion,
     Prediction,
+    Period(u64),
 }
 
 // The answer to a line without its LF: any bytes, of any length. Its only refusal is TOO_LONG, and
@@ -31,5 +36,6 @@ pub fn answer_line(sheet: Sheet, s: &[u8], out: &mut [u8]) -> Wrote
     match sheet {
         Sheet::Completion => write_completion(out, complete(r)),
         Sheet::Prediction => write_spectrum(out, predict_shown(r)),
+        Sheet::Period(t) => write_period(out, t, predict_period(r, t)),
     }
 }

@@ -19,7 +19,7 @@ ghost use Rattle.lent.specs.Lent.{Written, LentWritten};
 ghost use Rattle.answer.specs.RowLines.{rowLine, rowLines, spectrumLines};
 
 // The line of a measure, for which there is room.
-fn put_row(out: &mut [u8], at: usize, k: u64, row: Shown) -> usize
+pub fn put_row(out: &mut [u8], at: usize, k: u64, row: Shown) -> usize
     requires { ⌜ at + length (rowLine k row) ≤ length (now out) ⌝ }
     ensures { λ r. ⌜ Written (now (out .entry)) at (rowLine k row) r (now (out .exit)) ⌝ }
 {
@@ -31,7 +31,7 @@ fn put_row(out: &mut [u8], at: usize, k: u64, row: Shown) -> usize
 }
 
 // How many bytes a measure's line has: 4 beside its digits and the sign.
-fn row_length(k: u64, row: Shown) -> usize
+pub fn row_length(k: u64, row: Shown) -> usize
     ensures { λ r. ⌜ (r ≡ length (rowLine k row)) × (r ≤ 85) ⌝ }
 {
     digits(k) + width(row.ln) + digits(row.median) + digits(row.sigma) + 4

@@ -4,7 +4,7 @@ use mathlib.Core.Path.{_≡_, sym, _∙_}
 use denote.Ref.{now}
 use Rattle.text.specs.declared.read.Line.the-variants as L
 use Rattle.text.specs.Grammar.{lineOf}
-use Rattle.answer.proofs.SheetLaws.{malformed-line, completion-lines, prediction-lines}
+use Rattle.answer.proofs.SheetLaws.{malformed-line, completion-lines, prediction-lines, period-lines}
 use Rattle.answer.proofs.answer_line.Statement.{statement}
 use Rattle.answer.proofs.answer_line.Tie as tie
 
@@ -49,6 +49,15 @@ predict-shown-requires c κs = search needs
 write-spectrum-requires : tie.Need-write-spectrum-requires
 write-spectrum-requires c κs = search needs
 
+enum-known-sheet : tie.Need-enum-known-sheet
+enum-known-sheet c = search needs
+
+predict-period-requires : tie.Need-predict-period-requires
+predict-period-requires c κs = search needs
+
+write-period-requires : tie.Need-write-period-requires
+write-period-requires c κs = search needs
+
 same-length-2 : tie.Need-same-length-2
 same-length-2 c = search needs
 
@@ -77,6 +86,19 @@ returns-3 c =
     let s = r .before .before .before .before .before in
     rw (t .enum-told3 .given .1, prediction-lines (now (s .args .s)) (r .r .given .0 .0) (read r), ← k .predict-shown .ensures) (w .write-spectrum .ensures)
 
+same-length-4 : tie.Need-same-length-4
+same-length-4 c = search needs
+
+returns-4 : tie.Need-returns-4
+returns-4 c =
+    let w = c .before .before in
+    let k = w .before in
+    let t = k .before .before .before in
+    let r = t .before .before .before in
+    let s = r .before .before .before .before .before in
+    rw (t .sheet .given .1, period-lines (now (s .args .s)) (r .r .given .0 .0) (read r) (t .sheet .given .0 .0), ← k .predict-period .ensures)
+    (w .write-period .ensures)
+
 pub answer-line-spec : {M : Type 1} → statement M
 answer-line-spec =
     tie.close
@@ -93,7 +115,12 @@ answer-line-spec =
     enum-told-3
     predict-shown-requires
     write-spectrum-requires
+    enum-known-sheet
+    predict-period-requires
+    write-period-requires
     same-length-2
     returns-2
     same-length-3
-    returns-3)
+    returns-3
+    same-length-4
+    returns-4)
