@@ -12,6 +12,7 @@ unfoldable pub headerOf : Sheet → List ℕ
 unfolding ascii
 headerOf S.Completion = ascii "dip W ZTOR RRUP Z25 from" ++ (lf ∷ [])
 headerOf S.Prediction = []
+headerOf (S.Period t) = []
 
 -- the whole output: the header, then the answers
 unfoldable pub outputTo : Sheet → List ℕ → List ℕ

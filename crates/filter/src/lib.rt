@@ -182,6 +182,7 @@ fn begin(sheet: Sheet) -> bool {
     match sheet {
         Sheet::Completion => put_header(sheet, b"dip W ZTOR RRUP Z25 from\n"),
         Sheet::Prediction => put_header(sheet, b""),
+        Sheet::Period(_) => put_header(sheet, b""),
     }
 }
 

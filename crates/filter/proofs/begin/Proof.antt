@@ -25,11 +25,24 @@ put-header-requires-2 : tie.Need-put-header-requires-2
 unfolding headerOf
 put-header-requires-2 c κs = rw (c .before .enum-told2 .given .1)
 
+enum-told-3 : tie.Need-enum-told-3
+enum-told-3 c = search needs
+
+slice-aggregate-put-header-3 : tie.Need-slice-aggregate-put-header-3
+slice-aggregate-put-header-3 c = search needs
+
+put-header-requires-3 : tie.Need-put-header-requires-3
+unfolding headerOf
+put-header-requires-3 c κs = rw (c .before .enum-told3 .given .1)
+
 returns : tie.Need-returns
 returns c = search needs
 
 returns-2 : tie.Need-returns-2
 returns-2 c = search needs
+
+returns-3 : tie.Need-returns-3
+returns-3 c = search needs
 
 pub begin-spec : {M : Type 1} → statement M
 begin-spec =
@@ -41,5 +54,9 @@ begin-spec =
     enum-told-2
     slice-aggregate-put-header-2
     put-header-requires-2
+    enum-told-3
+    slice-aggregate-put-header-3
+    put-header-requires-3
     returns
-    returns-2)
+    returns-2
+    returns-3)

@@ -37,6 +37,7 @@ slice-aggregate-read-list-2 c = search needs
 enough : (sheet : Sheet) → longestAnswer sheet ≤ 65536
 enough S.Completion = omega arith
 enough S.Prediction = omega arith
+enough (S.Period t) = omega arith
 
 read-list-requires : tie.Need-read-list-requires
 read-list-requires c κs =
