@@ -177,9 +177,9 @@ pub period-accurate : (t : ℕ) (x : Scenario) → 10 ≤ t → t ≤ 10000 → 
 period-accurate t x l h r =
     by-place (λ (e : Exact) (w : Row). Accurate e w) t x l h (λ i k. demand-3 i x k r)
     (λ i w w' k g.
-      let j : i < 24 = before i k in
-      line-accurate w w' g (exactOf i x) (exactOf (i + 1) x) (fineFixed i x) (fineFixed (i + 1) x) (fine-near i x j r) (fine-near (i + 1) x k r)
-      (fine-in-range i x j r) (fine-in-range (i + 1) x k r))
+    let j : i < 24 = before i k in
+    line-accurate w w' g (exactOf i x) (exactOf (i + 1) x) (fineFixed i x) (fineFixed (i + 1) x) (fine-near i x j r) (fine-near (i + 1) x k r)
+    (fine-in-range i x j r) (fine-in-range (i + 1) x k r))
   where
     before : (i : ℕ) → i + 1 < 24 → i < 24
     before i k = omega arith

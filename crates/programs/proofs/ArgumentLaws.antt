@@ -40,6 +40,6 @@ other-text a b {t} f h = go (sameText a b) refl
 
 -- ---- the status
 pub status-small : (a : Asked) {n : ℕ} → EndsAs a n → n ≤ 2
-status-small A.List h = omega arith
+status-small (A.List sheet) h = omega arith
 status-small A.Help h = omega arith
 status-small A.Misused h = omega arith

@@ -1,44 +1,44 @@
 // What the programs say of themselves.
-use answer::Sheet;
+use crate::Program;
 use filter::put_out;
 use libc::STDERR_FILENO;
 
 // One line of usage on standard error. Whether it can be written changes nothing.
-pub fn put_usage(sheet: Sheet) {
-    match sheet {
-        Sheet::Completion => {
+pub fn put_usage(program: Program) {
+    match program {
+        Program::Complete => {
             io::write_all(
                 STDERR_FILENO,
                 b"usage: complete < LIST > ANSWERS, or complete --help\n",
             );
         }
-        Sheet::Prediction => {
+        Program::Predict => {
             io::write_all(
                 STDERR_FILENO,
-                b"usage: predict < LIST > ANSWERS, or predict --help\n",
+                b"usage: predict [--period T] < LIST > ANSWERS, or predict --help\n",
             );
         }
     }
 }
 
 // The help of a program on standard output: whether all of it was written.
-pub fn put_help(sheet: Sheet) -> bool {
-    if !put_answers_help(sheet) {
+pub fn put_help(program: Program) -> bool {
+    if !put_answers_help(program) {
         return false;
     }
     if !put_request_help() {
         return false;
     }
-    if !put_example(sheet) {
+    if !put_example(program) {
         return false;
     }
     put_status_help()
 }
 
 // How the program is used and what it writes.
-fn put_answers_help(sheet: Sheet) -> bool {
-    match sheet {
-        Sheet::Completion => put_out(
+fn put_answers_help(program: Program) -> bool {
+    match program {
+        Program::Complete => put_out(
             b"usage: complete < LIST > ANSWERS\n\
             \n\
             Reads request lines from standard input and writes to standard output a\n\
@@ -47,8 +47,8 @@ fn put_answers_help(sheet: Sheet) -> bool {
             five, g where it was given, e where it was estimated; or \"no\" and the number of\n\
             the refusal.\n",
         ),
-        Sheet::Prediction => put_out(
-            b"usage: predict < LIST > ANSWERS\n\
+        Program::Predict => put_out(
+            b"usage: predict [--period T] < LIST > ANSWERS\n\
             \n\
             Reads request lines from standard input and writes to standard output for each\n\
             request that is accepted a line for each of 24 measures: its number, ln median\n\
@@ -57,7 +57,13 @@ fn put_answers_help(sheet: Sheet) -> bool {
             0.030, 0.050, 0.075, 0.10, 0.15, 0.20, 0.25, 0.30, 0.40, 0.50, 0.75, 1.0, 1.5,\n\
             2.0, 3.0, 4.0, 5.0, 7.5 and 10.0 s; 21 is PGA in g, 22 PGV in cm/s, 23 PGD in\n\
             cm. Up to 0.25 s a median that would be below PGA's is PGA's; its sigma stays. A\n\
-            request that is refused gets \"no\" and the number of the refusal.\n",
+            request that is refused gets \"no\" and the number of the refusal.\n\
+            \n\
+            With --period T, a period in thousandths of a second from 10 to 10000, one line:\n\
+            T, ln median, the median in 10^-10 of g and the total sigma. Between two\n\
+            tabulated periods ln median and sigma lie on the straight line over the\n\
+            logarithm of the period. A request that is accepted gets \"no 17\" where T is any\n\
+            other number.\n",
         ),
     }
 }
@@ -85,7 +91,7 @@ fn put_request_help() -> bool {
 }
 
 // A request and its answer.
-fn put_example(sheet: Sheet) -> bool {
+fn put_example(program: Program) -> bool {
     if !put_out(
         b"\n\
         Example: the request\n\
@@ -93,14 +99,16 @@ fn put_example(sheet: Sheet) -> bool {
     ) {
         return false;
     }
-    match sheet {
-        Sheet::Completion => put_out(
+    match program {
+        Program::Complete => put_out(
             b"gets\n\
             \x20 ok 90 10000 3000 5000 2000 eggeg\n",
         ),
-        Sheet::Prediction => put_out(
+        Program::Predict => put_out(
             b"gets 24 lines, of which that of PGA is\n\
-            \x20 21 -1021505 3600527821 519476\n",
+            \x20 21 -1021505 3600527821 519476\n\
+            and with --period 370 the line\n\
+            \x20 370 -495903 6090208853 583453\n",
         ),
     }
 }
@@ -110,7 +118,7 @@ fn put_status_help() -> bool {
     put_out(
         b"\n\
         Exit status: 0 where the list was answered to its end, whatever the answers; 1\n\
-        where input cannot be read or output cannot be written; 2 for arguments other\n\
-        than --help alone.\n",
+        where input cannot be read or output cannot be written; 2 for any other\n\
+        arguments.\n",
     )
 }

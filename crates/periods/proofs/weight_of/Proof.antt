@@ -36,7 +36,7 @@ returns c =
     let e = ap₂ (λ (a b : ℕ). a * E9 / b) (c .before .ln-narrow .ensures .0) (c .ln-narrow2 .ensures .0) in (
       e,
       subst (λ (w : ℕ). w ≤ E9) (sym e)
-      (weightFixed-one (s .args .t) (s .args .t1) (s .args .t2) (g .some) (s .pre .1) (s .pre .2) (g .wide) (g .apart)),
+          (weightFixed-one (s .args .t) (s .args .t1) (s .args .t2) (g .some) (s .pre .1) (s .pre .2) (g .wide) (g .apart)),
     )
 
 pub weight-of-spec : {M : Type 1} → statement M

@@ -4,45 +4,45 @@ use borrow.Author.Needs.{needs}
 use Rattle.programs.proofs.serve.Statement.{statement}
 use Rattle.programs.proofs.serve.Tie as tie
 
-enum-told : tie.Need-enum-told
-enum-told c = search needs
+enum-known-asked : tie.Need-enum-known-asked
+enum-known-asked c = search needs
 
 run-requires : tie.Need-run-requires
 run-requires c κs = search needs
 
-enum-told-2 : tie.Need-enum-told-2
-enum-told-2 c = search needs
+enum-told : tie.Need-enum-told
+enum-told c = search needs
 
 put-help-requires : tie.Need-put-help-requires
 put-help-requires c κs = search needs
 
-enum-told-3 : tie.Need-enum-told-3
-enum-told-3 c = search needs
+enum-told-2 : tie.Need-enum-told-2
+enum-told-2 c = search needs
 
 put-usage-requires : tie.Need-put-usage-requires
 put-usage-requires c κs = search needs
 
 returns : tie.Need-returns
-returns c = rw (c .before .enum-told .given .1) (c .run .ensures)
+returns c = rw (c .before .before .asked .given .1) (c .run .ensures)
 
 returns-2 : tie.Need-returns-2
-returns-2 c = rw (c .before .before .enum-told2 .given .1) (omega arith)
+returns-2 c = rw (c .before .before .enum-told .given .1) (omega arith)
 
 returns-3 : tie.Need-returns-3
-returns-3 c = rw (c .before .before .enum-told2 .given .1) (omega arith)
+returns-3 c = rw (c .before .before .enum-told .given .1) (omega arith)
 
 returns-4 : tie.Need-returns-4
-returns-4 c = rw (c .before .enum-told3 .given .1)
+returns-4 c = rw (c .before .enum-told2 .given .1)
 
 pub serve-spec : {M : Type 1} → statement M
 serve-spec =
     tie.close
     (tie.spec
-    enum-told
+    enum-known-asked
     run-requires
-    enum-told-2
+    enum-told
     put-help-requires
-    enum-told-3
+    enum-told-2
     put-usage-requires
     returns
     returns-2
