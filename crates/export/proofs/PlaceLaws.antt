@@ -12,7 +12,8 @@ use Rattle.prediction.specs.declared.floats.FloatRow.{FloatRow}
 use Rattle.prediction.specs.Floats.{noFloats}
 use Rattle.lent.specs.Lent.{Written}
 use Rattle.lent.proofs.PutLaws.{room-after, then}
-use Rattle.export.specs.Given.{rowNumbers, numbersOf}
+use Rattle.row_numbers.specs.RowNumbers.{rowNumbers}
+use Rattle.export.specs.Given.{numbersOf}
 
 -- ---- the rows
 pub length-numbers : (rows : List FloatRow) → length (numbersOf rows) ≡ 6 * length rows

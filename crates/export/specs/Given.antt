@@ -12,6 +12,7 @@ use Rattle.prediction.specs.declared.measure.OneMeasure.{OneMeasure}
 use Rattle.prediction.specs.declared.measure.OneMeasure.the-variants as M
 use Rattle.prediction.specs.Floats.{floatSpectrumOf}
 use Rattle.prediction.specs.Measures.{measureOf, refusalIn, medianIn, sigmaIn}
+use Rattle.row_numbers.specs.RowNumbers.{rowNumbers}
 use Rattle.lent.specs.Lent as Lent
 use Rattle.lent.specs.Lent.{countOf, wrote, after}
 use Rattle.text.specs.declared.read.Line.{Line}
@@ -44,10 +45,6 @@ unfoldable pub spectrumAnswer : Line → FloatSpectrum
 unfolding floatSpectrumOf
 spectrumAnswer (L.Is r) = floatSpectrumOf r
 spectrumAnswer L.Malformed = record { refusal = numberOf L.Malformed; rows = [] }
-
--- the six numbers of a row in document 01's order
-unfoldable pub rowNumbers : FloatRow → List Float
-rowNumbers r = r .ln ∷ r .median ∷ r .intra ∷ r .inter ∷ r .total ∷ r .arbitrary ∷ []
 
 -- row after row
 unfoldable pub numbersOf : List FloatRow → List Float

@@ -1,6 +1,7 @@
 // The functions that a service in C or Rust and a valve's controller call. None asks anything of the
 // bytes and numbers that it is lent, and a refusal changes none of them.
 mod parts;
+mod period;
 mod rows;
 
 use answer::Sheet;

@@ -1,8 +1,8 @@
 -- The six numbers are the definition's. Assumes nothing.
 use borrow.Author.Needs.{needs}
-use Rattle.export.specs.Given.{rowNumbers}
-use Rattle.export.proofs.rows.put_row.Statement.{statement}
-use Rattle.export.proofs.rows.put_row.Tie as tie
+use Rattle.row_numbers.specs.RowNumbers.{rowNumbers}
+use Rattle.row_numbers.proofs.put_row.Statement.{statement}
+use Rattle.row_numbers.proofs.put_row.Tie as tie
 
 slice-aggregate-put-numbers : tie.Need-slice-aggregate-put-numbers
 slice-aggregate-put-numbers c = search needs
