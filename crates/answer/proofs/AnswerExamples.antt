@@ -1,7 +1,8 @@
 -- Document 01's listing, line by line, and the line of a measure, worked out by the definitions. Assumes nothing.
 use mathlib.Core.Path.{_≡_, refl}
 use lib.IntN.{negsuc}
-use Rattle.text.specs.Grammar.{isDigit, digitsOf, unsignedOf, plain, signedOf, asWord, fieldOf, spaceAt, inFront, fieldsOf, requestOf, toLine}
+use Rattle.numerals.specs.Plain.{isDigit}
+use Rattle.text.specs.Grammar.{digitsOf, unsignedOf, plain, signedOf, asWord, fieldOf, spaceAt, inFront, fieldsOf, requestOf, toLine}
 use Rattle.numerals.specs.Render.{ascii, digitsIn, render, renderSigned}
 use Rattle.answer.specs.declared.Sheet.the-variants as S
 use Rattle.answer.specs.RowLines.{rowLine}

@@ -62,7 +62,9 @@ fn weight_of(t: u64, t1: u64, t2: u64) -> u64
     requires { ⌜ Gap t1 t2 × (t1 ≤ t) × (t ≤ t2) ⌝ }
     ensures { λ w. ⌜ (w ≡ weightFixed t t1 t2) × (w ≤ E9) ⌝ }
 {
-    ln_narrow(t, t1) * E9 / ln_narrow(t2, t1)
+    let a = ln_narrow(t, t1);
+    let b = ln_narrow(t2, t1);
+    a * E9 / b
 }
 
 // The number that far along the line from a to b. A quarter of the difference is taken, so that the

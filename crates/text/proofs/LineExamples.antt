@@ -8,7 +8,8 @@ use Rattle.request.specs.declared.Field.the-variants.{Given, Blank}
 use Rattle.request.specs.declared.Request.{Request}
 use Rattle.text.specs.declared.read.Line.{Line}
 use Rattle.text.specs.declared.read.Line.the-variants as L
-use Rattle.text.specs.Grammar.{isDigit, digitsOf, unsignedOf, plain, negative, signedOf, asWord, fieldOf, spaceAt, signedAt, inFront, fieldsOf, requestOf, toLine, lineOf}
+use Rattle.numerals.specs.Plain.{isDigit}
+use Rattle.text.specs.Grammar.{digitsOf, unsignedOf, plain, negative, signedOf, asWord, fieldOf, spaceAt, signedAt, inFront, fieldsOf, requestOf, toLine, lineOf}
 use Rattle.numerals.specs.Render.{ascii}
 
 -- document 01's first line

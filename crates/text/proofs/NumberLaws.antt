@@ -12,7 +12,8 @@ use lib.ListN.{length, getD, drop, drop-of-length-le}
 use lib.Seq.{drop-cons}
 use Rattle.text.specs.declared.figures.Number.the-variants.{Is, Malformed}
 use Rattle.numerals.specs.Render.{digit0, digit9}
-use Rattle.text.specs.Grammar.{isDigit, digitsOf, unsignedOf}
+use Rattle.numerals.specs.Plain.{isDigit}
+use Rattle.text.specs.Grammar.{digitsOf, unsignedOf}
 
 module _ (n : ℕ) (s : List ℕ) (i : ℕ) where
   pub at-digit : i < length s → digit0 ≤ getD s i 0 → getD s i 0 ≤ digit9 → digitsOf n (drop i s) ≡ digitsOf (n * 10 + (getD s i 0 - digit0)) (drop (i + 1) s)

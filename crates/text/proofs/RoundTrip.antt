@@ -6,7 +6,7 @@ use mathlib.Core.Path.{_≡_, refl, ap, _∙_}
 use mathlib.Core.Bool.{Bool, true, false, _&&_, cond, and-false}
 use mathlib.Core.List.{List, [], _∷_, _++_}
 use native.Mathlib.Omega.{arith}
-use borrow.Author.Tests.{le-ltb, ltb-true, ltb-false, ne-eqb, le-leb}
+use borrow.Author.Tests.{le-ltb, ne-eqb, le-leb}
 use lib.Dec.{ltb, eqb}
 use lib.IntN.{ℤ, pos, negsuc, natAbs}
 use lib.ListN.{length, getD, length-append, List·getD-append}
@@ -16,10 +16,11 @@ use Rattle.text.specs.declared.figures.Number.the-variants as N
 use Rattle.text.specs.declared.figures.Signed.the-variants as S
 use Rattle.text.specs.declared.figures.Word.the-variants as W
 use Rattle.numerals.specs.Render.{space, minus, digit0, digit9, render, renderSigned}
-use Rattle.text.specs.Grammar.{isDigit, digitsOf, unsignedOf, plain, negative, signedOf, asWord, fieldOf, spaceAt}
+use Rattle.numerals.specs.Plain.{isDigit}
+use Rattle.text.specs.Grammar.{digitsOf, unsignedOf, plain, negative, signedOf, asWord, fieldOf, spaceAt}
 use Rattle.text.specs.ReadBack.{signedBack}
 use Rattle.text.proofs.FigureLaws.{minus-taken, no-minus}
-use Rattle.numerals.proofs.RenderLaws.{by-tenths, render-one, render-more, length-one, length-more, length-render}
+use Rattle.numerals.proofs.RenderLaws.{by-tenths, render-one, render-more, length-render, some-digit, no-zero-more}
 
 -- ---- the digits of any number
 -- one digit more
@@ -50,9 +51,6 @@ digits-back =
     (λ n h ih. rw (render-more n h) (more-digits (n % 10) (omega arith) 0 (render (n / 10)) (n / 10) ih ∙ ap N.Is (omega arith)))
 
 -- ---- its first byte, and its length
-pub some-digit : (n : ℕ) → 0 < length (render n)
-some-digit = by-tenths (λ n. 0 < length (render n)) (λ n h. omega (arith, length-one n h)) (λ n h ih. omega (arith, length-more n h))
-
 first-of-more : (n : ℕ) → 10 ≤ n → getD (render n) 0 0 ≡ getD (render (n / 10)) 0 0
 first-of-more n h = rw (render-more n h) (List·getD-append (render (n / 10)) ((digit0 + n % 10) ∷ []) 0 0 (some-digit (n / 10)))
 
@@ -60,32 +58,16 @@ pub first-digit : (n : ℕ) → digit0 ≤ getD (render n) 0 0
 first-digit =
     by-tenths (λ n. digit0 ≤ getD (render n) 0 0) (λ n h. rw (render-one n h) (omega arith)) (λ n h ih. omega (arith, first-of-more n h))
 
--- "0" leads no number but 0
-pub no-leading-zero : (n : ℕ) → 1 ≤ n → digit0 < getD (render n) 0 0
-no-leading-zero =
-    by-tenths (λ n. 1 ≤ n → digit0 < getD (render n) 0 0)
-    (λ n h k. rw (render-one n h) (omega arith))
-    (λ n h ih k. omega (arith, first-of-more n h, ih (omega arith)))
-
 -- ---- as a field
 -- a number that the grammar allows
 module _ (n : ℕ) (small : n < 1000000) where
-  no-zero-more : ltb 1 (length (render n)) && eqb (getD (render n) 0 0) digit0 ≡ false
-  no-zero-more = go (ltb n 10) refl
-    where
-      go : (t : Bool) → ltb n 10 ≡ t → ltb 1 (length (render n)) && eqb (getD (render n) 0 0) digit0 ≡ false
-      go true e = rw (length-one n (ltb-true n 10 e))
-      go false e =
-          let h : digit0 < getD (render n) 0 0 = no-leading-zero n (omega (arith, ltb-false n 10 e)) in
-          rw (ne-eqb (getD (render n) 0 0) digit0 (λ q. omega arith)) (and-false (ltb 1 (length (render n))))
-
   pub number-back : unsignedOf (render n) ≡ N.Is n
   unfolding unsignedOf
   number-back =
       rw (
         ne-eqb (length (render n)) 0 (λ q. omega (arith, some-digit n)),
         le-ltb 6 (length (render n)) (length-render 5 n (omega arith)),
-        no-zero-more,
+        no-zero-more n,
       ) (digits-back n)
 
 -- a figure of either sign, where a minus sign is allowed

@@ -4,14 +4,15 @@ use Prim.Native.Nat.{ℕ, zero, suc, _+_, _-_, _*_}
 use mathlib.Core.Bool.{Bool, cond, _&&_, _||_}
 use mathlib.Core.List.{List, [], _∷_}
 use mathlib.Core.Option.{Option, none, some}
-use lib.Dec.{ltb, leb, eqb}
+use lib.Dec.{ltb, eqb}
 use lib.IntN.{pos, negsuc}
 use lib.ListN.{length, getD, take, drop}
 use Rattle.refusals.specs.Order as No
 use Rattle.request.specs.declared.Field.{Field}
 use Rattle.request.specs.declared.Field.the-variants.{Given, Blank}
 use Rattle.request.specs.declared.Request.{Request}
-use Rattle.numerals.specs.Render.{space, minus, digit0, digit9}
+use Rattle.numerals.specs.Render.{space, minus, digit0}
+use Rattle.numerals.specs.Plain.{isDigit}
 use Rattle.text.specs.declared.figures.Number.{Number}
 use Rattle.text.specs.declared.figures.Number.the-variants as N
 use Rattle.text.specs.declared.figures.Signed.{Signed}
@@ -22,10 +23,6 @@ use Rattle.text.specs.declared.read.Line.{Line}
 use Rattle.text.specs.declared.read.Line.the-variants as L
 
 -- ---- one field
--- "0" to "9"
-unfoldable pub isDigit : ℕ → Bool
-isDigit c = leb digit0 c && leb c digit9
-
 -- the number that digits stand for, after those that make n
 unfoldable pub digitsOf : ℕ → List ℕ → Number
 digitsOf n [] = N.Is n

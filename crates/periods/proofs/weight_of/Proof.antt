@@ -15,11 +15,11 @@ use Rattle.periods.proofs.weight_of.Tie as tie
 ln-narrow-requires : tie.Need-ln-narrow-requires
 ln-narrow-requires c κs = search needs
 
-mul-result : tie.Need-mul-result
-mul-result c = search needs
-
 ln-narrow-requires-2 : tie.Need-ln-narrow-requires-2
 ln-narrow-requires-2 c κs = search needs
+
+mul-result : tie.Need-mul-result
+mul-result c = search needs
 
 div-result : tie.Need-div-result
 div-result c =
@@ -41,4 +41,4 @@ returns c =
 
 pub weight-of-spec : {M : Type 1} → statement M
 weight-of-spec =
-    tie.close (tie.spec ln-narrow-requires mul-result ln-narrow-requires-2 div-result returns)
+    tie.close (tie.spec ln-narrow-requires ln-narrow-requires-2 mul-result div-result returns)
