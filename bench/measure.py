@@ -12,6 +12,7 @@ import subprocess
 import sys
 
 ROUNDS = 5
+# A program with its arguments, which are those of the C program too, where its answers go, and the list.
 PAIRS = [
     ("complete", "/dev/null", "mixed"),
     ("complete", "a pipe", "mixed"),
@@ -19,6 +20,8 @@ PAIRS = [
     ("predict", "a pipe", "mixed"),
     ("predict", "/dev/null", "soft"),
     ("predict", "/dev/null", "stiff"),
+    ("predict --period 370", "/dev/null", "mixed"),
+    ("predict --period 370", "a pipe", "mixed"),
 ]
 
 
@@ -38,9 +41,10 @@ def once(command, path, out):
 
 second, folder = sys.argv[1:]
 for program, out, kind in PAIRS:
+    name, *words = program.split()
     proved, c = [], []
     for _ in range(ROUNDS):
-        proved.append(once([f"target/bin/{program}"], f"{folder}/{kind}", out))
-        c.append(once([second, program], f"{folder}/{kind}", out))
+        proved.append(once([f"target/bin/{name}", *words], f"{folder}/{kind}", out))
+        c.append(once([second, name, *words], f"{folder}/{kind}", out))
     ratio = statistics.median(p / q for p, q in zip(proved, c))
-    print(f"{program + ' to ' + out:24}{kind:8}{statistics.median(proved):11.3f} s {statistics.median(c):11.3f} s {ratio:7.2f}", flush=True)
+    print(f"{program + ' to ' + out:34}{kind:8}{statistics.median(proved):11.3f} s {statistics.median(c):11.3f} s {ratio:7.2f}", flush=True)

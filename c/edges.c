@@ -52,13 +52,17 @@ static void null_with_length_0(uint8_t *end)
     expect(xanhupive_measure(NULL, 0, 21, &median, &total) == XANHUPIVE_MALFORMED, "a measure of the empty line");
     expect(median == -1.0 && total == -2.0, "a refused measure changes nothing");
     expect(xanhupive_spectrum(NULL, 0, NULL, 0) == XANHUPIVE_MALFORMED, "14 comes before 16");
+    expect(xanhupive_period(NULL, 0, 370, NULL, 0) == XANHUPIVE_MALFORMED, "a period of the empty line");
 
     request(end, "650 0 760 - 10000 - 3000 4000 30 - - - 2000");
     expect(xanhupive_complete_line(line, length, NULL, 0) == 0, "no room to complete");
     expect(xanhupive_predict_line(line, length, NULL, 0) == 0, "no room to predict");
     expect(xanhupive_spectrum(line, length, NULL, 0) == XANHUPIVE_TOO_LONG, "no room for a spectrum");
+    expect(xanhupive_period(line, length, 370, NULL, 0) == XANHUPIVE_TOO_LONG, "no room for a row");
+    expect(xanhupive_period(line, length, 9, NULL, 0) == XANHUPIVE_NO_PERIOD, "17 comes before 16");
     request(end, "851 0 760 - 10000 - 3000 4000 30 - - - 2000");
     expect(xanhupive_spectrum(line, length, NULL, 0) == 2, "2 comes before 16");
+    expect(xanhupive_period(line, length, 9, NULL, 0) == 2, "2 comes before 17 and 16");
 }
 
 static void one_measure(uint8_t *end)
@@ -129,6 +133,154 @@ static void soft_site(uint8_t *end)
     each_measure(rows);
 }
 
+/* The periods of measures 0 to 20, in thousandths of a second. */
+#define PERIODS 21
+static const uint64_t TABULATED[PERIODS] = {
+    10, 20, 30, 50, 75, 100, 150, 200, 250, 300, 400, 500, 750, 1000, 1500, 2000, 3000, 4000, 5000, 7500, 10000,
+};
+
+/* A line for each refusal of a request. */
+static const char *const REFUSED[] = {
+    [1] = "650 181 760 - 10000 - 3000 4000 30 - - - 2000",
+    [2] = "851 0 760 - 10000 - 3000 4000 30 - - - 2000",
+    [3] = "650 0 149 - 10000 - 3000 4000 30 - - - 2000",
+    [4] = "650 0 760 14 10000 - 3000 4000 30 - - - 2000",
+    [5] = "650 0 760 - 0 - 3000 4000 30 - - - 2000",
+    [6] = "650 0 760 - 10000 30001 3000 4000 30 - - - 2000",
+    [7] = "650 0 760 - 10000 - 15001 4000 30 - - - 2000",
+    [8] = "650 0 760 - 10000 - 3000 200001 30 - - - 2000",
+    [9] = "650 0 760 - 10000 - 3000 4000 181 - - - 2000",
+    [10] = "650 90 300 40 10000 - 3000 0 90 - - - 2000",
+    [11] = "650 0 760 - 10000 - 3000 4000 30 200001 - - 2000",
+    [12] = "650 0 760 - 10000 - 3000 4000 30 4998 - - 2000",
+    [13] = "650 0 760 - 10000 - 3000 4000 30 - - - 10001",
+    [14] = "650 0 760 - 10000 - 3000 4000 30 - - - 2000\n",
+};
+
+/* Periods out of range; the lower half of one of them is in it. */
+static const uint64_t NO_PERIODS[] = {0, 9, 10001, (UINT64_C(1) << 32) + 370, UINT64_MAX};
+
+#define COUNT(array) (sizeof(array) / sizeof *(array))
+
+/* A period refused in every length of a row, the numbers around it too as they were. */
+static void period_refused(uint64_t period, uint32_t refusal, double *last, const char *what)
+{
+    const uint8_t mark = 0xa5;
+    for (size_t lent = 0; lent <= XANHUPIVE_COLUMNS + 2; lent++) {
+        double *row = last - lent;
+        memset(row - 8, mark, (lent + 8) * sizeof *last);
+        expect(xanhupive_period(line, length, period, row, lent) == refusal, what);
+        expect(all_are((uint8_t *)(row - 8), (uint8_t *)last, mark), "a refused period changes nothing");
+    }
+}
+
+/* The request's refusals come before the period's, and that before the row's. */
+static void period_refusals(uint8_t *end, double *last)
+{
+    for (uint32_t refusal = 1; refusal < COUNT(REFUSED); refusal++) {
+        request(end, REFUSED[refusal]);
+        period_refused(370, refusal, last, "a refused request at a period");
+        for (size_t k = 0; k < COUNT(NO_PERIODS); k++)
+            period_refused(NO_PERIODS[k], refusal, last, "the request's refusal comes before the period's");
+    }
+    request(end, "650 0 760 - 10000 - 3000 4000 30 - - - 2000");
+    for (size_t k = 0; k < COUNT(NO_PERIODS); k++)
+        period_refused(NO_PERIODS[k], XANHUPIVE_NO_PERIOD, last, "a period out of range, whatever the row's length");
+}
+
+/* Every length of a row: too short refused, no number changed; else written, the numbers around it as they were. */
+static void period_lengths(uint8_t *end, double *last)
+{
+    const uint8_t mark = 0xa5;
+    request(end, "650 0 760 - 10000 - 3000 4000 30 - - - 2000");
+    for (size_t lent = 0; lent <= XANHUPIVE_COLUMNS + 8; lent++) {
+        double *row = last - lent;
+        size_t written = lent < XANHUPIVE_COLUMNS ? 0 : XANHUPIVE_COLUMNS;
+        memset(row - 8, mark, (lent + 8) * sizeof *last);
+        expect(xanhupive_period(line, length, 370, row, lent) == (written ? 0 : XANHUPIVE_TOO_LONG), "a row's length");
+        expect(all_are((uint8_t *)(row - 8), (uint8_t *)row, mark), "the numbers before a row are as they were");
+        expect(all_are((uint8_t *)(row + written), (uint8_t *)last, mark), "the numbers behind a row are as they were");
+        for (size_t k = 0; k < written; k++)
+            expect(!all_are((uint8_t *)(row + k), (uint8_t *)(row + k + 1), mark), "each number of a row is written");
+    }
+}
+
+/* Whether two numbers are no farther apart than that. */
+static int near(double a, double b, double by)
+{
+    return a - b <= by && b - a <= by;
+}
+
+/* Whether a number lies between two others, with some to spare. */
+static int lies_between(double number, double a, double b, double spare)
+{
+    double low = a < b ? a : b;
+    double high = a < b ? b : a;
+    return low - spare <= number && number <= high + spare;
+}
+
+/* A row between those of its neighbours: each number a whole one and between theirs. */
+static void row_between(const double *row, const double *shorter, const double *longer)
+{
+    for (int k = 0; k < XANHUPIVE_COLUMNS; k++) {
+        double spare = k == 1 ? 1 + row[k] / 250000 : 1;
+        expect(row[k] == (double)(int64_t)row[k], "a number of a row between two is a whole one");
+        expect(lies_between(row[k], shorter[k], longer[k], spare), "a row between two lies between them");
+    }
+}
+
+/* Every period of a request: a tabulated one has the row of the spectrum, any other lies between its neighbours. */
+static void every_period(const double *rows, double *row)
+{
+    const double *at = rows;
+    for (uint64_t period = XANHUPIVE_SHORTEST_PERIOD; period <= XANHUPIVE_LONGEST_PERIOD; period++) {
+        expect(xanhupive_period(line, length, period, row, XANHUPIVE_COLUMNS) == 0, "every period from 10 to 10000");
+        const uint64_t *tabulated = TABULATED + (at - rows) / XANHUPIVE_COLUMNS;
+        if (period == *tabulated) {
+            expect(memcmp(row, at, XANHUPIVE_COLUMNS * sizeof *row) == 0, "at a tabulated period the row is the spectrum's");
+            at += XANHUPIVE_COLUMNS;
+        } else {
+            row_between(row, at - XANHUPIVE_COLUMNS, at);
+        }
+    }
+    expect(at == rows + XANHUPIVE_COLUMNS * PERIODS, "all 21 tabulated periods");
+}
+
+/* The periods of a site that has rows of its own, and of a soft one whose short periods have PGA's median. */
+static void each_period(uint8_t *end, double *last)
+{
+    static const char *const lines[] = {
+        "650 0 760 90 10000 - 3000 4000 30 5000 - - 2000",
+        "800 90 150 45 20000 - 1000 0 90 1000 - - 10000",
+    };
+    for (size_t k = 0; k < COUNT(lines); k++) {
+        double rows[XANHUPIVE_NUMBERS] = {0};
+        request(end, lines[k]);
+        expect(xanhupive_spectrum(line, length, rows, XANHUPIVE_NUMBERS) == 0, "a spectrum beside its periods");
+        every_period(rows, last - XANHUPIVE_COLUMNS);
+    }
+}
+
+/* The valve's spring at 0.37 s, by the published equations and the line between 0.30 and 0.40 s. */
+static void the_valves_spring(uint8_t *end)
+{
+    const double expected[] = {-495903, 6090208837, 541813, 216458, 583453, 618044};
+    double row[XANHUPIVE_COLUMNS] = {0};
+    request(end, "650 0 760 90 10000 - 3000 4000 30 5000 - - 2000");
+    expect(xanhupive_period(line, length, 370, row, XANHUPIVE_COLUMNS) == 0, "0.37 s");
+    for (int k = 0; k < XANHUPIVE_COLUMNS; k++)
+        expect(near(row[k], expected[k], k == 1 ? 2 + expected[k] / 500000 : 1), "the row at 0.37 s");
+}
+
+static void periods(uint8_t *end, uint8_t *numbers_end)
+{
+    double *last = (double *)(void *)numbers_end;
+    period_refusals(end, last);
+    period_lengths(end, last);
+    each_period(end, last);
+    the_valves_spring(end);
+}
+
 int main(void)
 {
     uint8_t *line_end = page_end();
@@ -145,5 +297,6 @@ int main(void)
     one_measure(line_end);
     spectrum(line_end, out_end);
     soft_site(line_end);
+    periods(line_end, out_end);
     return counted("edges");
 }

@@ -1,21 +1,22 @@
 /*
- * Xanhupive from C: a request line completed, or the shaking of its 24 measures predicted, by the
- * Campbell-Bozorgnia 2008 equations; and a list of such lines answered in parts. Link libexport.a, which
- * `rt staticlib export` writes, and nothing beside it but the C library's memcpy and memset.
+ * Xanhupive from C: a request line completed, or its shaking predicted, in 24 measures or at any period from
+ * 0.010 to 10.0 s, by the Campbell-Bozorgnia 2008 equations; and a list of such lines answered in parts.
+ * Link libexport.a, which `rt staticlib export` writes, and nothing beside it but the C library's memcpy and
+ * memset.
  *
  * A request line is the thirteen fields with single spaces between them, without its LF. It may be any
  * bytes of any length: what is not a request line is refused with number 14. The README has the fields
  * and the table of refusals.
  *
  * What the comments below promise is proved of the source that is compiled, for every line, every
- * measure and every length: one possible answer, and one possible state of what was lent.
+ * measure, every period and every length: one possible answer, and one possible state of what was lent.
  *
  * What a caller owes, which nothing here can test:
- *   - A pointer and its length are of one block that may be read, and for `out`, `rows`, `reader`,
+ *   - A pointer and its length are of one block that may be read, and for `out`, `rows`, `row`, `reader`,
  *     `median`, `total`, `took` and `wrote` written. With length 0 any pointer will do, NULL too: nothing
  *     is read or written there.
- *   - `median`, `total` and a `rows` of some length are aligned as a double is, `took` and `wrote` as a
- *     uint64_t is, and none of the four single numbers is NULL.
+ *   - `median`, `total` and a `rows` or `row` of some length are aligned as a double is, `took` and `wrote`
+ *     as a uint64_t is, and none of the four single numbers is NULL.
  *   - What is lent to be written shares no byte with anything else that is lent to the same call, and
  *     no other thread touches it meanwhile.
  *   - Lent bytes and numbers hold values already, whatever they are, as after a memset.
@@ -51,10 +52,15 @@ extern "C" {
 /* Numbers of a spectrum. */
 #define XANHUPIVE_NUMBERS 144
 
+/* Any period from the shortest tabulated one to the longest may be asked for, in thousandths of a second. */
+#define XANHUPIVE_SHORTEST_PERIOD 10
+#define XANHUPIVE_LONGEST_PERIOD 10000
+
 /* The refusals that are not of the request itself. */
 #define XANHUPIVE_MALFORMED 14
 #define XANHUPIVE_NO_MEASURE 15
 #define XANHUPIVE_TOO_LONG 16
+#define XANHUPIVE_NO_PERIOD 17
 
 /* Bytes of a reader. */
 #define XANHUPIVE_READER 101
@@ -105,6 +111,22 @@ uint32_t xanhupive_measure(const uint8_t *line, size_t line_length, uint64_t mea
  * request that is refused, else 16 where `rows_length`, counted in doubles, is below XANHUPIVE_NUMBERS.
  */
 uint32_t xanhupive_spectrum(const uint8_t *line, size_t line_length, double *rows, size_t rows_length);
+
+/*
+ * The row at one period, in thousandths of a second, without working out the spectrum.
+ *
+ * At the period of a measure from 0 to 20 it is that measure's row in xanhupive_spectrum, number for number.
+ * Between two of these periods ln median and each sigma lie on the straight line over the logarithm of the
+ * period between the two rows, and the median is the exponential of that ln median; the README says how near.
+ *
+ * Returns 0, with the row in row[0] to row[5], in the order of XANHUPIVE_COLUMNS and the units of
+ * xanhupive_spectrum, each double exactly a whole number between two tabulated periods too: ln median and
+ * sigmas are whole numbers of millionths, as in all rows. Numbers from row[6] on are as they were.
+ * Or returns the refusal's number, and no number has changed: 14 for a malformed line, 1 to 13 for a
+ * request that is refused, else 17 for a period that is not from XANHUPIVE_SHORTEST_PERIOD to
+ * XANHUPIVE_LONGEST_PERIOD, else 16 where `row_length`, counted in doubles, is below XANHUPIVE_COLUMNS.
+ */
+uint32_t xanhupive_period(const uint8_t *line, size_t line_length, uint64_t period, double *row, size_t row_length);
 
 /*
  * A list of request lines, each with its LF, in parts cut at any place: a part may be empty, and hold

@@ -2,7 +2,7 @@
 """Runs requests through the proved programs and through the second program and compares every answer.
 
     python3 second/compare.py SEED COUNT [--tight] [--complete COMMAND] [--predict COMMAND | --no-predict] [--rows COMMAND]
-        [--second PATH]
+        [--periods COMMAND] [--second PATH]
 
 COMMAND is a path with its arguments, by default target/bin/complete and target/bin/predict; the second program is compiled unless its
 path is given. Exit 1 on any difference beyond its bound:
@@ -16,16 +16,21 @@ path is given. Exit 1 on any difference beyond its bound:
 - ln median and the sigmas: 5 millionths, --tight 1; the median: 1 + Y/100000, --tight 1 + Y/500000; from the second program's figure
   before it is rounded, at the figures that the first completed. The predicting program prints ln median, median and total sigma;
   --rows names a program that prints all six figures of a row, as c/rows.c does with the static library. It is told how many medians
-  of each short period are PGA's, their own being lower; a long list must have some of each, with and without the others.
+  of each short period are PGA's, their own being lower; a long list must have some of each, with and without the others;
+- rows at periods, where --periods names a program that prints all six figures of a row at the period that stands before each request,
+  as c/periods.c does: the same bounds, and a long list must have every whole period from 10 to 10000 thousandths of a second among its
+  accepted requests. A refusal: that of the request, else 17 exactly for a period out of that range. At a tabulated period the figures
+  must be those that --rows prints. A part of the list goes through the predicting program's --period too, at some periods.
 """
 import argparse
+import bisect
 import collections
 import os
 import re
 import sys
 
 from programs import HEADER, ROOT, build, command, listed, run
-from random_requests import LONG, NAMES, STARRED, refused_lists, requests
+from random_requests import EVERY_PERIOD, LONG, NAMES, PERIODS, STARRED, periods, refused_lists, requests
 
 METRES = 2
 # How far an estimate may lie below and above the second program's figure, in m: by document 01; and --tight, as the programs round it.
@@ -41,9 +46,17 @@ PRINTED = ["ln median", "median", "total sigma"]
 MEASURES = 24
 # Of the nine periods up to 0.25 s the first has PGA's own coefficients and never falls below it.
 FALLING = range(1, 9)
+# What the predicting program is asked for with --period: tabulated periods, others, and some out of range; and for how many lines.
+ASKED = [9, 10, 11, 40, 75, 250, 275, 370, 1000, 6000, 10000, 10001]
+PART = 5000
+NO_PERIOD = b"no 17"
 SHOWN = 10
 
 Answer = collections.namedtuple("Answer", "refusal figures letters exact")
+# A request with a period, what the first program completed it to, and which medians are raised to PGA's, None if it is refused; and
+# where a predicted figure stands, of which program.
+Timed = collections.namedtuple("Timed", "period line completed raised")
+Place = collections.namedtuple("Place", "program period")
 
 
 class Report:
@@ -64,12 +77,15 @@ class Report:
             self.fail(line, f"{name} is {metres}, exact {exact / 1000}")
         return -below <= off <= above
 
-    def row(self, line, name, measure, off, bound):
-        """A predicted figure."""
-        share = abs(off) / bound
-        self.high[name, measure] = max(self.high[name, measure], share)
-        if share > 1:
-            self.fail(line, f"measure {measure}, {name} is off by {off:.3f}, bound {bound:.6g}")
+    def row(self, line, name, place, figure, fine, bounds):
+        """A predicted figure, at a measure or a Place, and the second program's in thousandths."""
+        millionths, share = bounds
+        off, bound = figure - fine / 1000, 1 + fine / 1000 / share if name == "median" else millionths
+        self.high[name, place] = max(self.high[name, place], abs(off) / bound)
+        if abs(off) > bound:
+            self.fail(line, f"{told(place)}, {name} is off by {off:.3f}, bound {bound:.6g}")
+        if name == "median" and figure < 1:
+            self.fail(line, f"{told(place)}, a median below 1")
 
     def fail(self, line, words):
         """A failure at a line."""
@@ -103,8 +119,28 @@ def asked(words, requested, report):
 
 def at_completed(lines, completed):
     """The accepted requests with all completed figures given, as a list."""
-    accepted = ((fields_of(line), p.figures) for line, p in zip(lines, completed) if p and p.refusal == 0)
-    return listed(line_of(at_figures(fields, figures, COLUMNS)) for fields, figures in accepted)
+    return listed(completed_line(line, p) for line, p in zip(lines, completed) if p and p.refusal == 0)
+
+
+def completed_line(line, p):
+    """An accepted request with all completed figures given."""
+    return line_of(at_figures(fields_of(line), p.figures, COLUMNS))
+
+
+def row_of(said, number, names):
+    """The figures that a line has behind its number, by name; None if it has another form."""
+    try:
+        first, *figures = map(int, said.split(b" "))
+    except ValueError:
+        return None
+    if first != number or len(figures) != len(names) or b" ".join(b"%d" % n for n in (first, *figures)) != said:
+        return None
+    return dict(zip(names, figures))
+
+
+def told(place):
+    """Where a predicted figure stands, in words."""
+    return f"{place.program} at period {place.period}" if isinstance(place, Place) else f"measure {place}"
 
 
 def line_of(fields):
@@ -265,37 +301,98 @@ class Comparison:
 
     def spectrum(self, line, names, mine, others, bounds):
         """Compares the 24 lines of one prediction with the second program's in thousandths; whether they have the form."""
-        millionths, share = bounds
         if len(mine) != MEASURES:
             self.report.fail(line, f"{len(mine)} lines")
             return False
-        for measure, (a, b) in enumerate(zip(mine, others)):
-            try:
-                number, *figures = map(int, a.split(b" "))
-            except ValueError:
-                number, figures = None, []
-            if number != measure or len(figures) != len(names) or b" ".join(b"%d" % n for n in (number, *figures)) != a:
-                self.report.fail(line, f"another form at measure {measure}: {a!r}")
-                return False
-            fine = dict(zip(ROW, map(int, b.split(b" ")[1:])))
-            for name, figure in zip(names, figures):
-                bound = 1 + fine[name] / 1000 / share if name == "median" else millionths
-                self.report.row(line, name, measure, figure - fine[name] / 1000, bound)
-                if name == "median" and figure < 1:
-                    self.report.fail(line, f"a median below 1 at measure {measure}")
+        return all(self.row(line, names, measure, measure, a, b, bounds) for measure, (a, b) in enumerate(zip(mine, others)))
+
+    def row(self, line, names, place, number, said, fine, bounds):
+        """Compares one line of a row, which has its number, with the second program's in thousandths; whether it has the form."""
+        figures = row_of(said, number, names)
+        if figures is None:
+            self.report.fail(line, f"{told(place)}, another form: {said!r}")
+            return False
+        exact = dict(zip(ROW, map(int, fine.split(b" ")[1:])))
+        for name, figure in figures.items():
+            self.report.row(line, name, place, figure, exact[name], bounds)
         return True
 
-    def raised(self, lines, completed):
-        """The measures of each request that both programs accept whose medians the second raises to PGA's."""
-        said = run([self.second, "raised"], at_completed(lines, completed)).decode().split("\n")
-        return [[int(k) for k in re.findall(r"\d+", line)] for line in said if line and not line.startswith("no ")]
+    def at_periods(self, program, words, names, asked, data, bounds):
+        """Compares a program's answers to a list, one line for each request with its period; gives them, none if there are more or less."""
+        accepted = [t for t in asked if t.completed.refusal == 0]
+        given = listed(b"%d %s" % (t.period, completed_line(t.line, t.completed)) for t in accepted)
+        second = run([self.second, "fine-periods"], given).split(b"\n")
+        first = run(words, data).split(b"\n")
+        if first.pop() != b"" or second.pop() != b"" or len(first) != len(asked) or len(second) != len(accepted):
+            self.report.fail(b"", f"{program}: {len(first)} answers for {len(asked)} requests, {len(second)} for {len(accepted)} accepted")
+            return []
+        theirs = iter(second)
+        for t, said in zip(asked, first):
+            refusal = t.completed.refusal
+            self.at_period(Place(program, t.period), t, names, said, b"no %d" % refusal if refusal else next(theirs), bounds)
+        return first
 
-    def short_lists(self, predict):
+    def at_period(self, place, t, names, said, fine, bounds):
+        """Compares one answer with the request's refusal, or with the second program's row in thousandths or its refusal."""
+        refused, outside = fine.startswith(b"no "), t.period not in EVERY_PERIOD
+        if t.completed.refusal == 0 and (refused != outside or refused and fine != NO_PERIOD):
+            self.report.fail(t.line, f"the second program has {fine!r} at period {t.period}")
+        if refused:
+            self.report.count[place.program, fine] += 1
+            if said != fine:
+                self.report.fail(t.line, f"{told(place)}, {said!r}, which must be {fine!r}")
+        elif self.row(t.line, names, place, t.period, said, fine, bounds):
+            self.report.count[place] += 1
+
+    def timed(self, words, rows, asked, bounds):
+        """Compares rows at periods, and those at tabulated ones with what the program of rows prints, if there is one."""
+        data = b"\n".join(b"%d %s" % (t.period, t.line) for t in asked)
+        said = self.at_periods("periods", words, ROW, asked, data, bounds)
+        if rows and said:
+            self.tabulated(rows, [(t, line) for t, line in zip(asked, said) if t.period in PERIODS and t.completed.refusal == 0])
+
+    def tabulated(self, rows, answered):
+        """Compares answers at tabulated periods with the rows of the same requests, byte for byte behind the number."""
+        lines = run(rows, listed(t.line for t, _ in answered)).split(b"\n")
+        if len(lines) != MEASURES * len(answered) + 1:
+            self.report.fail(b"", f"{len(lines) - 1} lines of rows for {len(answered)} accepted requests")
+            return
+        self.report.count["tabulated"] = len(answered)
+        for k, (t, said) in enumerate(answered):
+            row = lines[MEASURES * k + PERIODS.index(t.period)]
+            if said.partition(b" ")[2] != row.partition(b" ")[2]:
+                self.report.fail(t.line, f"{said!r} at a tabulated period, where its row is {row!r}")
+
+    def one_period(self, predict, lines, completed, bounds):
+        """Compares what the predicting program prints with --period, for a part of the list and its unfinished line."""
+        step = max(1, len(lines) // PART)
+        part = [*zip(lines[:-1:step], completed[:-1:step]), (lines[-1], completed[-1])]
+        data = b"\n".join(line for line, _ in part)
+        for period in ASKED:
+            asked = [Timed(period, line, p, None) for line, p in part]
+            self.at_periods("predict", [*predict, "--period", str(period)], PRINTED, asked, data, bounds)
+
+    def raised(self, lines, completed):
+        """The measures of each accepted request whose medians the second program raises to PGA's; none where it refuses it."""
+        said = run([self.second, "raised"], at_completed(lines, completed)).decode().split("\n")[:-1]
+        return [[] if line.startswith("no ") else [int(k) for k in re.findall(r"\d+", line)] for line in said]
+
+    def short_lists(self, predict, timed):
         """Compares what the programs print for lists without an accepted line, byte for byte."""
         pairs = [(self.first, [self.second, "complete"])] + ([(predict, [self.second, "predict"])] if predict else [])
+        pairs += [(timed, [self.second, "periods"])] if timed else []
+        pairs += [([*predict, "--period", "370"], [self.second, "period", "370"])] if timed and predict else []
         for data in refused_lists():
             if any(run(first, data) != run(second, data) for first, second in pairs):
                 self.report.fail(data[:100], "another answer to this short list")
+
+
+def asked_at(seed, lines, completed, raised, long):
+    """The requests of a list, each as often as it has periods."""
+    measures = iter(raised)
+    known = [None if p.refusal else next(measures) for p in completed]
+    drawn = zip(lines, completed, known, periods(seed, known, long))
+    return [Timed(period, line, p, some) for line, p, some, each in drawn for period in each]
 
 
 def covered(lines, completed):
@@ -321,6 +418,46 @@ def tell_raised(report, raised, long):
         report.fail(b"", "the list does not show each short period below PGA, or another measure is raised")
 
 
+def tell_periods(report, program, names):
+    """Prints how far each figure of a program was off at periods; gives these periods."""
+    count = {place.period: n for place, n in report.count.items() if isinstance(place, Place) and place.program == program}
+    print(f"{program}: {sum(count.values())} rows compared at {len(count)} periods, {report.count[program, NO_PERIOD]} periods refused")
+    for name in names if count else []:
+        off, gaps = {period: report.high[name, Place(program, period)] for period in count}, collections.defaultdict(float)
+        for period, share in off.items():
+            below = PERIODS[bisect.bisect(PERIODS, period) - 1]
+            gaps[below] = max(gaps[below], share)
+        worst = max(off, key=off.get)
+        print(f"{name}: worst {off[worst]:.3f} of its bound, at period {worst}; from each tabulated period to the next:")
+        print("  " + ", ".join(f"{below} {gaps[below]:.3f}" for below in sorted(gaps)))
+    return set(count)
+
+
+def tell_gaps(report, asked, long):
+    """Prints how many rows lie between two of which one is raised to PGA's, or both; a long list must have some in each gap."""
+    count = collections.Counter()
+    for t in asked:
+        if t.raised and t.period in EVERY_PERIOD and t.period not in PERIODS:
+            below = bisect.bisect(PERIODS, t.period) - 1
+            count[below, (below in t.raised) + (below + 1 in t.raised)] += 1
+    gaps = {1: range(FALLING[0] - 1, FALLING[-1] + 1), 2: FALLING[:-1]}
+    for raised, words in ((1, "one is raised"), (2, "both are raised")):
+        print(f"rows between two of which {words} to PGA's: " + ", ".join(f"{PERIODS[k]} {count[k, raised]}" for k in gaps[raised]))
+    if long and not all(count[k, raised] for raised in gaps for k in gaps[raised]):
+        report.fail(b"", "the list does not show each gap between rows that are raised")
+
+
+def tell_timed(report, asked, predict, rows, long):
+    """Prints what was compared at periods; a long list must have every one."""
+    if set(EVERY_PERIOD) - tell_periods(report, "periods", ROW) and long:
+        report.fail(b"", "the list leaves out a period")
+    tell_gaps(report, asked, long)
+    if rows:
+        print(f"{report.count['tabulated']} of these rows at tabulated periods compared with the tabulated ones byte for byte")
+    if predict:
+        tell_periods(report, "predict", PRINTED)
+
+
 def tell(report, accepted, predicted):
     """Prints how far each figure was off."""
     for name in COLUMNS[1:]:
@@ -331,13 +468,17 @@ def tell(report, accepted, predicted):
         worst = max(range(MEASURES), key=lambda m: report.high[name, m])
         print(f"{name}: {MEASURES * accepted} compared, worst {report.high[name, worst]:.3f} of its bound, at measure {worst}; by measure:")
         print("  " + " ".join(f"{report.high[name, m]:.3f}" for m in range(MEASURES)))
+
+
+def tell_failures(report):
+    """Prints how many failures there are, and the first of them."""
     for words in report.failures[:SHOWN]:
         print(f"FAILED {words}")
     print(f"{len(report.failures)} beyond their bounds")
 
 
-def main():
-    """One comparison, from its options to its exit status."""
+def read_options():
+    """The options that are given."""
     options = argparse.ArgumentParser(description=__doc__.split("\n")[0])
     options.add_argument("seed", type=int)
     options.add_argument("count", type=int)
@@ -346,21 +487,33 @@ def main():
     options.add_argument("--predict", default=os.path.join(ROOT, "target/bin/predict"))
     options.add_argument("--no-predict", action="store_true", help="compare completed requests alone")
     options.add_argument("--rows", help="a program that prints all six figures of a row")
+    options.add_argument("--periods", help="a program that prints all six figures of a row at the period before each request")
     options.add_argument("--second")
-    given = options.parse_args()
+    return options.parse_args()
 
-    report = Report(ROUNDED if given.tight else BOUNDS)
-    comparison = Comparison(command(given.complete), given.second or build(), report)
+
+def main():
+    """One comparison, from its options to its exit status."""
+    given = read_options()
     predict = None if given.no_predict else command(given.predict)
+    rows, timed = (words and command(words) for words in (given.rows, given.periods))
+    report, long = Report(ROUNDED if given.tight else BOUNDS), given.count >= LONG
+    comparison = Comparison(command(given.complete), given.second or build(), report)
     data = requests(given.seed, given.count)
     lines = data.split(b"\n")
     completed = comparison.completing(data, lines) or []
     bounds = (1, 500000) if given.tight else (5, 100000)
     if completed and predict:
         comparison.predicting(predict, PRINTED, data, lines, completed, bounds)
-    if completed and given.rows:
-        comparison.predicting(command(given.rows), ROW, data, lines, completed, bounds)
-    comparison.short_lists(predict)
+    if completed and rows:
+        comparison.predicting(rows, ROW, data, lines, completed, bounds)
+    raised, asked = comparison.raised(lines, completed) if predict or timed else [], []
+    if completed and timed and all(completed):
+        asked = asked_at(given.seed, lines, completed, raised, long)
+        comparison.timed(timed, rows, asked, bounds)
+        if predict:
+            comparison.one_period(predict, lines, completed, bounds)
+    comparison.short_lists(predict, timed)
 
     patterns, refusals = covered(lines, completed)
     accepted = sum(p is not None and p.refusal == 0 for p in completed)
@@ -369,8 +522,11 @@ def main():
     if given.count >= 20000 and (len(patterns) < 256 or len(refusals) < 14):
         report.fail(b"", "the list leaves out a pattern or a refusal")
     if completed and predict:
-        tell_raised(report, comparison.raised(lines, completed), given.count >= LONG)
-    tell(report, accepted, ROW if given.rows else PRINTED if predict else [])
+        tell_raised(report, raised, long)
+    tell(report, accepted, ROW if rows else PRINTED if predict else [])
+    if timed:
+        tell_timed(report, asked, predict, rows, long)
+    tell_failures(report)
     sys.exit(1 if report.failures else 0)
 
 

@@ -1,11 +1,19 @@
 /* The second program: a list of requests on standard input, its answers on standard output.
 
-       second complete    document 01's completing program
-       second predict     document 01's predicting program
-       second rows        as predict, with all six figures of a row: ln median, median, intra, inter, total, arbitrary
-       second fine        as rows, each figure in thousandths of its reported unit
-       second raised      the measures whose median is PGA's, since their own is lower, with a semicolon between; - for none
-       second figures     as complete, what was estimated untested (see request.c), with W, ZTOR, RRUP and Z2.5 in mm behind it */
+       second complete        document 01's completing program
+       second predict         document 01's predicting program
+       second period T        its line for each request at a period, T thousandths of a second: T, ln median, median, total sigma;
+                              `second predict --period T` is the same
+       second rows            as predict, with all six figures of a row: ln median, median, intra, inter, total, arbitrary
+       second fine            as rows, each figure in thousandths of its reported unit
+       second periods         each line has its own period before the request, with a space between: all six figures of that row, the
+                              period before them
+       second fine-periods    as periods, each figure in thousandths of its reported unit
+       second raised          the measures whose median is PGA's, since their own is lower, with a semicolon between; - for none
+       second figures         as complete, what was estimated untested (see request.c), with W, ZTOR, RRUP and Z2.5 in mm behind it
+
+   A period is any whole number of 64 bits, of 20 digits at most. */
+#include <limits.h>
 #include <math.h>
 #include <stdio.h>
 #include <string.h>
@@ -14,8 +22,24 @@
 #include "request.h"
 
 #define BLOCK 65536
+#define PERIOD_DIGITS 20
 
-typedef void answer(const struct request *request);
+/* What a line asks: a request and, where the command has one, a period in thousandths of a second. */
+struct asked {
+    struct request request;
+    unsigned long long period;
+};
+
+typedef void answer(const struct asked *asked);
+
+/* Where a command has its period from. */
+enum source { NO_SOURCE, ITS_ARGUMENT, EACH_LINE };
+
+struct command {
+    const char *name;
+    answer *to;
+    enum source period;
+};
 
 /* A completed request's line without its LF. */
 static void print_completed(const struct completed *c) {
@@ -26,15 +50,15 @@ static void print_completed(const struct completed *c) {
 }
 
 /* The line of `complete`. */
-static void answer_complete(const struct request *request) {
-    struct completed c = complete_request(request);
+static void answer_complete(const struct asked *asked) {
+    struct completed c = complete_request(&asked->request);
     print_completed(&c);
     putchar('\n');
 }
 
 /* The line of `figures`. */
-static void answer_figures(const struct request *request) {
-    struct completed c = estimate_request(request);
+static void answer_figures(const struct asked *asked) {
+    struct completed c = estimate_request(&asked->request);
     print_completed(&c);
     if (!c.refusal)
         printf(" %lld %lld %lld %lld", llround(c.exact.w * 1e3), llround(c.exact.ztor * 1e3),
@@ -54,41 +78,84 @@ static int spectrum_of(const struct request *request, struct prediction spectrum
     return MEASURES;
 }
 
+/* Whether a request has a row at its period; if not, with the refusal printed. */
+static int row_of(const struct asked *asked, struct prediction *row) {
+    struct completed c = complete_request(&asked->request);
+    int refusal = c.refusal ? c.refusal : has_period(asked->period) ? 0 : NO_PERIOD;
+    if (refusal) {
+        printf("no %d\n", refusal);
+        return 0;
+    }
+    struct figures f = figures_of(&c);
+    *row = predict_period(&f, asked->period);
+    return 1;
+}
+
+/* All six figures of a row as they are reported, after its number. */
+static void print_row(unsigned long long number, const struct prediction *p) {
+    struct row r = reported(p);
+    printf("%llu %lld %lld %lld %lld %lld %lld\n", number, r.ln_median, r.median, r.intra, r.inter, r.total, r.arbitrary);
+}
+
+/* All six figures of a row in thousandths of their units, after its number. */
+static void print_fine(unsigned long long number, const struct prediction *p) {
+    printf("%llu %lld %lld %lld %lld %lld %lld\n", number, llround(p->ln_median * 1e9), llround(p->median * 1e13),
+        llround(p->intra * 1e9), llround(p->inter * 1e9), llround(p->total * 1e9), llround(p->arbitrary * 1e9));
+}
+
 /* The lines of `predict`. */
-static void answer_predict(const struct request *request) {
+static void answer_predict(const struct asked *asked) {
     struct prediction spectrum[MEASURES];
-    int count = spectrum_of(request, spectrum);
+    int count = spectrum_of(&asked->request, spectrum);
     for (int k = 0; k < count; k++) {
         struct row r = reported(&spectrum[k]);
         printf("%d %lld %lld %lld\n", k, r.ln_median, r.median, r.total);
     }
 }
 
+/* The line of `period`. */
+static void answer_period(const struct asked *asked) {
+    struct prediction p;
+    if (!row_of(asked, &p))
+        return;
+    struct row row = reported(&p);
+    printf("%llu %lld %lld %lld\n", asked->period, row.ln_median, row.median, row.total);
+}
+
 /* The lines of `rows`. */
-static void answer_rows(const struct request *request) {
+static void answer_rows(const struct asked *asked) {
     struct prediction spectrum[MEASURES];
-    int count = spectrum_of(request, spectrum);
-    for (int k = 0; k < count; k++) {
-        struct row r = reported(&spectrum[k]);
-        printf("%d %lld %lld %lld %lld %lld %lld\n", k, r.ln_median, r.median, r.intra, r.inter, r.total, r.arbitrary);
-    }
+    int count = spectrum_of(&asked->request, spectrum);
+    for (int k = 0; k < count; k++)
+        print_row((unsigned long long)k, &spectrum[k]);
 }
 
 /* The lines of `fine`. */
-static void answer_fine(const struct request *request) {
+static void answer_fine(const struct asked *asked) {
     struct prediction spectrum[MEASURES];
-    int count = spectrum_of(request, spectrum);
-    for (int k = 0; k < count; k++) {
-        const struct prediction *p = &spectrum[k];
-        printf("%d %lld %lld %lld %lld %lld %lld\n", k, llround(p->ln_median * 1e9), llround(p->median * 1e13), llround(p->intra * 1e9),
-            llround(p->inter * 1e9), llround(p->total * 1e9), llround(p->arbitrary * 1e9));
-    }
+    int count = spectrum_of(&asked->request, spectrum);
+    for (int k = 0; k < count; k++)
+        print_fine((unsigned long long)k, &spectrum[k]);
+}
+
+/* The line of `periods`. */
+static void answer_periods(const struct asked *asked) {
+    struct prediction p;
+    if (row_of(asked, &p))
+        print_row(asked->period, &p);
+}
+
+/* The line of `fine-periods`. */
+static void answer_fine_periods(const struct asked *asked) {
+    struct prediction p;
+    if (row_of(asked, &p))
+        print_fine(asked->period, &p);
 }
 
 /* The line of `raised`. */
-static void answer_raised(const struct request *request) {
+static void answer_raised(const struct asked *asked) {
     struct prediction spectrum[MEASURES];
-    int count = spectrum_of(request, spectrum), found = 0;
+    int count = spectrum_of(&asked->request, spectrum), found = 0;
     for (int k = 0; k < count; k++)
         if (spectrum[k].raised)
             printf(found++ ? ";%d" : "%d", k);
@@ -96,23 +163,62 @@ static void answer_raised(const struct request *request) {
         puts(found ? "" : "-");
 }
 
-/* The answer to one line without its LF. */
-static void answer_line(const char *bytes, size_t size, answer *to) {
-    struct request request;
-    if (parse_line(bytes, size, &request))
-        to(&request);
+static const struct command COMMANDS[] = {
+    {"complete", answer_complete, NO_SOURCE},
+    {"predict", answer_predict, NO_SOURCE},
+    {"period", answer_period, ITS_ARGUMENT},
+    {"rows", answer_rows, NO_SOURCE},
+    {"fine", answer_fine, NO_SOURCE},
+    {"periods", answer_periods, EACH_LINE},
+    {"fine-periods", answer_fine_periods, EACH_LINE},
+    {"raised", answer_raised, NO_SOURCE},
+    {"figures", answer_figures, NO_SOURCE},
+};
+#define COMMANDS_COUNT (sizeof COMMANDS / sizeof COMMANDS[0])
+
+/* A whole number of 64 bits from its digits; 0 if they are none. */
+static int parse_period(const char *bytes, size_t size, unsigned long long *period) {
+    *period = 0;
+    if (size < 1 || size > PERIOD_DIGITS)
+        return 0;
+    for (size_t k = 0; k < size; k++) {
+        if (bytes[k] < '0' || bytes[k] > '9')
+            return 0;
+        unsigned long long digit = (unsigned long long)(bytes[k] - '0');
+        if (*period > (ULLONG_MAX - digit) / 10)
+            return 0;
+        *period = 10 * *period + digit;
+    }
+    return 1;
+}
+
+/* How many bytes of a line are its period and the space behind it; 0 if it does not begin so. */
+static size_t period_before(const char *bytes, size_t size, unsigned long long *period) {
+    size_t digits = 0;
+    while (digits < size && bytes[digits] != ' ')
+        digits++;
+    return digits < size && parse_period(bytes, digits, period) ? digits + 1 : 0;
+}
+
+/* The answer to one line without its LF, the period being that of the command's argument unless each line has its own. */
+static void answer_line(const char *bytes, size_t size, const struct command *command, unsigned long long period) {
+    struct asked asked = {.period = period};
+    int own = command->period == EACH_LINE;
+    size_t before = own ? period_before(bytes, size, &asked.period) : 0;
+    if ((before || !own) && parse_line(bytes + before, size - before, &asked.request))
+        command->to(&asked);
     else
         printf("no %d\n", MALFORMED);
 }
 
 /* The answers to a list; of a line, no more is held than shows that it is too long. */
-static void answer_list(answer *to) {
-    char block[BLOCK], held[LINE_BYTES + 1];
+static void answer_list(const struct command *command, unsigned long long period) {
+    char block[BLOCK], held[PERIOD_DIGITS + 1 + LINE_BYTES + 1];
     size_t size = 0, count;
     while ((count = fread(block, 1, sizeof block, stdin)) > 0) {
         for (size_t k = 0; k < count; k++) {
             if (block[k] == '\n') {
-                answer_line(held, size, to);
+                answer_line(held, size, command, period);
                 size = 0;
             } else if (size < sizeof held) {
                 held[size++] = block[k];
@@ -123,22 +229,33 @@ static void answer_list(answer *to) {
         printf("no %d\n", MALFORMED);
 }
 
-/* Runs the command that the one argument names. */
+/* The command of the arguments, with its period; NULL if they name none. */
+static const struct command *command_of(int count, char **words, unsigned long long *period) {
+    int long_form = count == 4 && strcmp(words[1], "predict") == 0 && strcmp(words[2], "--period") == 0;
+    const char *name = long_form ? "period" : count > 1 ? words[1] : "";
+    size_t k = 0;
+    while (k < COMMANDS_COUNT && strcmp(COMMANDS[k].name, name) != 0)
+        k++;
+    if (k == COMMANDS_COUNT)
+        return NULL;
+    if (COMMANDS[k].period != ITS_ARGUMENT)
+        return count == 2 ? &COMMANDS[k] : NULL;
+    if (count != 3 && !long_form)
+        return NULL;
+    const char *last = words[count - 1];
+    return parse_period(last, strlen(last), period) ? &COMMANDS[k] : NULL;
+}
+
+/* Runs the command that the arguments name. */
 int main(int count, char **words) {
-    const char *command = count == 2 ? words[1] : "";
-    answer *to = strcmp(command, "complete") == 0 ? answer_complete
-        : strcmp(command, "predict") == 0         ? answer_predict
-        : strcmp(command, "rows") == 0            ? answer_rows
-        : strcmp(command, "fine") == 0            ? answer_fine
-        : strcmp(command, "raised") == 0          ? answer_raised
-        : strcmp(command, "figures") == 0         ? answer_figures
-                                                  : NULL;
-    if (to == NULL) {
-        fputs("second complete|predict|rows|fine|raised|figures\n", stderr);
+    unsigned long long period = 0;
+    const struct command *command = command_of(count, words, &period);
+    if (command == NULL) {
+        fputs("second complete|predict|rows|fine|periods|fine-periods|raised|figures, second period T\n", stderr);
         return 2;
     }
-    if (to == answer_complete || to == answer_figures)
+    if (command->to == answer_complete || command->to == answer_figures)
         puts("dip W ZTOR RRUP Z25 from");
-    answer_list(to);
+    answer_list(command, period);
     return ferror(stdin) || fflush(stdout) != 0 || ferror(stdout);
 }

@@ -182,6 +182,65 @@ struct prediction predict_one(const struct figures *f, int measure) {
     return predict(f, measure, a, is_short(measure) ? ln_pga(f, a) : -INFINITY);
 }
 
+/* A tabulated period in thousandths of a second. */
+static unsigned long long thousandths(int measure) {
+    return (unsigned long long)llround(PERIOD[measure] * 1000);
+}
+
+/* Whether a period, in thousandths of a second, lies in the range of the tabulated ones. */
+int has_period(unsigned long long period) {
+    return thousandths(0) <= period && period <= thousandths(PERIODS - 1);
+}
+
+/* The measure that a period is tabulated as; if it is not, their number. */
+static int row_at(unsigned long long period) {
+    int k = 0;
+    while (k < PERIODS && thousandths(k) != period)
+        k++;
+    return k;
+}
+
+/* The lower measure of the two that a period lies between. */
+static int row_below(unsigned long long period) {
+    int k = 0;
+    while (k + 2 < PERIODS && thousandths(k + 1) < period)
+        k++;
+    return k;
+}
+
+/* How far a period lies from one measure's to the next one's, over the logarithm of the period: 0 to 1. */
+static double share_of(unsigned long long period, int below) {
+    double low = (double)thousandths(below), high = (double)thousandths(below + 1);
+    return log((double)period / low) / log(high / low);
+}
+
+/* A point of the straight line from one figure to another. */
+static double on_line(double low, double high, double share) {
+    return low + share * (high - low);
+}
+
+/* A row between two others: the logarithm of the median and each sigma on a line of its own. */
+static struct prediction between(const struct prediction *low, const struct prediction *high, double share) {
+    struct prediction row;
+    row.raised = low->raised && high->raised;
+    row.ln_median = on_line(low->ln_median, high->ln_median, share);
+    row.median = exp(row.ln_median);
+    row.intra = on_line(low->intra, high->intra, share);
+    row.inter = on_line(low->inter, high->inter, share);
+    row.total = on_line(low->total, high->total, share);
+    row.arbitrary = on_line(low->arbitrary, high->arbitrary, share);
+    return row;
+}
+
+/* One period from 10 to 10000 thousandths of a second: the row of the table, or the one between its neighbours. */
+struct prediction predict_period(const struct figures *f, unsigned long long period) {
+    int own = row_at(period), below = row_below(period);
+    if (own < PERIODS)
+        return predict_one(f, own);
+    struct prediction low = predict_one(f, below), high = predict_one(f, below + 1);
+    return between(&low, &high, share_of(period, below));
+}
+
 /* All 24 measures, A1100 and PGA worked out once. */
 void predict_all(const struct figures *f, struct prediction spectrum[MEASURES]) {
     double a = rock_pga(f), pga = ln_pga(f, a);

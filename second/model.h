@@ -13,8 +13,8 @@ struct figures {
     double m, vs30, dip, ztor, rjb, rrup, z25;
 };
 
-/* One measure: the median with its logarithm, in g, cm/s or cm, and the four sigmas; and whether the median is PGA's, since its own
-   is lower. */
+/* One measure, or one period: the median with its logarithm, in g, cm/s or cm, and the four sigmas; and whether the median is PGA's,
+   since its own is lower. */
 struct prediction {
     double ln_median, median, intra, inter, total, arbitrary;
     int raised;
@@ -27,6 +27,8 @@ struct row {
 
 double rock_pga(const struct figures *f);
 struct prediction predict_one(const struct figures *f, int measure);
+int has_period(unsigned long long period);
+struct prediction predict_period(const struct figures *f, unsigned long long period);
 void predict_all(const struct figures *f, struct prediction spectrum[MEASURES]);
 struct row reported(const struct prediction *p);
 

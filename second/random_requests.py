@@ -1,7 +1,8 @@
 #!/usr/bin/env python3
 """Requests for the comparison. First, the same in every long list: each magnitude of each style, each Vs30, dip, azimuth and rake, soft
 sites near a fault, and odd words in each field. Then random ones: every pattern of blank fields, values at and beside each branch of the rules, lines with
-fields out of range, lines at a limit that a completed figure decides, and malformed lines. The same seed gives the same list.
+fields out of range, lines at a limit that a completed figure decides, and malformed lines. The same seed gives the same list. And
+periods for the requests of a list.
 
     python3 second/random_requests.py SEED COUNT > list
 """
@@ -56,8 +57,10 @@ OUTSIDE = {
     "z15": [6046, 10000, 10001, 999999],
     "z25": [10001, 999999],
 }
-
-
+# The tabulated periods in thousandths of a second, every period from the first to the last, and some that lie outside.
+PERIODS = [10, 20, 30, 50, 75, 100, 150, 200, 250, 300, 400, 500, 750, 1000, 1500, 2000, 3000, 4000, 5000, 7500, 10000]
+EVERY_PERIOD = range(PERIODS[0], PERIODS[-1] + 1)
+NO_PERIODS = [0, 1, 9, 10001, 2**16 + 10, 2**32 + 370, 2**63 + 370, 2**64 - 1]
 LONG = 1000
 WORDS = ["", "-", "--", "-0", "00", "01", "-01", "-1", "+1", "1-", "0.5", "1e3", "~5", "x", "999999", "1000000", "-999999", "-1000000"]
 
@@ -245,6 +248,37 @@ def requests(seed, count):
         else:
             lines.append(spoiled(some, line_of(plain(some, pattern))))
     return b"\n".join(lines) + b"\n" + some.choice([lines[0], b"65", b"\0", b"-"])
+
+
+def drawn_period(some):
+    """A period: out of range, tabulated, one beside that, or any, the short ones as likely as the long."""
+    u = some.random()
+    if u < 0.1:
+        return some.choice(NO_PERIODS)
+    if u < 0.5:
+        return some.choice(PERIODS) + (some.choice([-1, 1]) if u < 0.3 else 0)
+    return int(PERIODS[0] * (PERIODS[-1] / PERIODS[0]) ** some.random())
+
+
+def every_period(some):
+    """Each period in range, again and again, in another order each time."""
+    while True:
+        yield from some.sample(EVERY_PERIOD, len(EVERY_PERIOD))
+
+
+def raised_periods(some, raised):
+    """Periods beside and between the measures whose medians are raised to PGA's: below the first, up to the last, above it."""
+    return [some.randrange(PERIODS[k] + 1, PERIODS[k + 1]) for k in (raised[0] - 1, raised[-1] - 1, raised[-1])] if raised else []
+
+
+def periods(seed, raised, long):
+    """The periods of each request of a list, told by its measures whose medians are raised to PGA's, or as None if it is refused: one
+    that is drawn; an accepted one has those above too, and one of every period, or so many that a long list has each."""
+    some, accepted = random.Random(seed), sum(measures is not None for measures in raised)
+    each, count = every_period(some), -(-len(EVERY_PERIOD) // max(1, accepted)) if long else 1
+    for measures in raised:
+        before = [] if measures is None else [next(each) for _ in range(count)] + raised_periods(some, measures)
+        yield before + [drawn_period(some)]
 
 
 if __name__ == "__main__":

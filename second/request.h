@@ -9,6 +9,7 @@
 #define FIELDS 13
 #define LINE_BYTES 100
 #define MALFORMED 14
+#define NO_PERIOD 17
 
 enum field_name { F_M, F_RAKE, F_VS30, F_DIP, F_W, F_ZHYP, F_ZTOR, F_RJB, F_AZIMUTH, F_RRUP, F_Z10, F_Z15, F_Z25 };
 

@@ -1,6 +1,6 @@
 #!/usr/bin/env python3
 """Compares Tables 2 and 3 of the second program, and their periods, with those of crates/tables/specs, number by number as printed. Six of
-them, rho where k2 is 0, and most of the periods move no figure of any request, so that no comparison of answers could notice them.
+them, rho where k2 is 0, move no figure of any request, so that no comparison of answers could notice them.
 
     python3 second/tables.py
 """

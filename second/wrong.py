@@ -142,6 +142,73 @@ WRONG = [
     ("model.c", "llround(p->median * 1e10)", "llround(p->median * 1.00002e10) + 1"),
 ]
 
+# The row at a period and what the rows before the short periods' rule are, as the list below has them.
+BETWEEN = "struct prediction low = predict_one(f, below), high = predict_one(f, below + 1);"
+BEFORE = "struct prediction low = predict(f, below, rock_pga(f), -INFINITY), high = predict(f, below + 1, rock_pga(f), -INFINITY);"
+DRAWN = "return between(&low, &high, share_of(period, below));"
+RULE_LAST = """struct prediction row = between(&low, &high, share_of(period, below));
+    if (period <= 250)
+        row.ln_median = fmax(row.ln_median, ln_pga(f, rock_pga(f)));
+    row.median = exp(row.ln_median);
+    return row;"""
+
+# What must be refused where periods are compared, likewise.
+WRONG_PERIODS = [
+    # the line: over the period itself, over another gap, from one end alone, from the far end, to the nearer row
+    ("model.c", "log((double)period / low) / log(high / low)", "((double)period - low) / (high - low)"),
+    ("model.c", "log((double)period / low) / log(high / low)", "(sqrt((double)period) - sqrt(low)) / (sqrt(high) - sqrt(low))"),
+    ("model.c", "thousandths(k + 1) < period", "thousandths(k) < period"),
+    ("model.c", "k + 2 < PERIODS", "k + 3 < PERIODS"),
+    ("model.c", "high = predict_one(f, below + 1);", "high = predict_one(f, below);"),
+    ("model.c", "high = predict_one(f, below + 1);", "high = predict_one(f, below + 2);"),
+    ("model.c", "between(&low, &high, share_of", "between(&high, &low, share_of"),
+    ("model.c", DRAWN, DRAWN.replace("share_of(period, below)", "round(share_of(period, below))")),
+    ("model.c", DRAWN, DRAWN.replace("period, below", "period + 1, below")),
+    # the median: on a line of its own, its logarithm from that
+    ("model.c", "row.median = exp(row.ln_median);", "row.median = on_line(low->median, high->median, share);"),
+    ("model.c", "row.ln_median = on_line(low->ln_median, high->ln_median, share);",
+     "row.ln_median = log(on_line(low->median, high->median, share));"),
+    # the sigmas: put together again, squares on a line, one end's
+    ("model.c", "on_line(low->total, high->total, share)", "hypot(row.intra, row.inter)"),
+    ("model.c", "on_line(low->intra, high->intra, share)", "sqrt(on_line(low->intra * low->intra, high->intra * high->intra, share))"),
+    ("model.c", "on_line(low->inter, high->inter, share)", "sqrt(on_line(low->inter * low->inter, high->inter * high->inter, share))"),
+    ("model.c", "on_line(low->arbitrary, high->arbitrary, share)", "hypot(row.total, on_line(sqrt(pow(low->arbitrary, 2) - pow(low->total, 2)),"
+     " sqrt(pow(high->arbitrary, 2) - pow(high->total, 2)), share))"),
+    ("model.c", "on_line(low->intra, high->intra, share)", "low->intra"),
+    ("model.c", "on_line(low->inter, high->inter, share)", "low->inter"),
+    ("model.c", "on_line(low->inter, high->inter, share)", "high->inter"),
+    ("model.c", "on_line(low->total, high->total, share)", "high->total"),
+    ("model.c", "on_line(low->arbitrary, high->arbitrary, share)", "low->arbitrary"),
+    # the rows before the rule of short periods: all, all with the rule at the period itself, 0.25 s alone, sigmas of PGA's row
+    ("model.c", BETWEEN, BEFORE),
+    ("model.c", BETWEEN + "\n    " + DRAWN, BEFORE + "\n    " + RULE_LAST),
+    ("model.c", BETWEEN, BETWEEN.replace("predict_one(f, below),", "below == 8 ? predict(f, 8, rock_pga(f), -INFINITY) : predict_one(f, below),")),
+    ("model.c", BETWEEN, BETWEEN.replace("predict_one(f, below),", "predict_one(f, predict_one(f, below).raised ? MEASURE_PGA : below),")),
+    # the tabulated rows: another one's, found one beside, missed by a millionth
+    ("model.c", "return predict_one(f, own);", "return predict_one(f, own == 13 ? 12 : own);"),
+    ("model.c", "return predict_one(f, own);", "return predict(f, own, rock_pga(f), -INFINITY);"),
+    ("model.c", "thousandths(k) != period", "thousandths(k) + 1 != period"),
+    ("main.c", "print_row(asked->period, &p);", "p.ln_median += 1e-6 * (asked->period == 1000), print_row(asked->period, &p);"),
+    ("main.c", "print_row(asked->period, &p);", "p.arbitrary += 1e-6 * (asked->period == 7500), print_row(asked->period, &p);"),
+    ("model.c", "0.075, 0.10,", "0.076, 0.10,"),
+    ("model.c", "1.5, 2.0,", "1.501, 2.0,"),
+    ("model.c", "7.5, 10.0,", "7.5, 10.001,"),
+    # the range, the order of refusals, the number
+    ("model.c", "thousandths(0) <= period", "thousandths(0) < period"),
+    ("model.c", "thousandths(0) <= period", "thousandths(0) <= period + 1"),
+    ("model.c", "period <= thousandths(PERIODS - 1)", "period < thousandths(PERIODS - 1)"),
+    ("model.c", "period <= thousandths(PERIODS - 1)", "period <= thousandths(PERIODS - 1) + 1"),
+    ("model.c", "int has_period(unsigned long long period) {", "int has_period(unsigned long long period) {\n    period = (unsigned)period;"),
+    ("model.c", "int has_period(unsigned long long period) {", "int has_period(unsigned long long period) {\n    period = (unsigned short)period;"),
+    ("main.c", "c.refusal ? c.refusal : has_period(asked->period) ? 0 : NO_PERIOD", "has_period(asked->period) ? c.refusal : NO_PERIOD"),
+    ("request.h", "#define NO_PERIOD 17", "#define NO_PERIOD 15"),
+    # the form of the predicting program's line
+    ("main.c", '"%llu %lld %lld %lld\\n", asked', '"%llu %lld %lld  %lld\\n", asked'),
+    ("main.c", '"%llu %lld %lld %lld\\n", asked', '"%05llu %lld %lld %lld\\n", asked'),
+    ("main.c", "row.median, row.total);", "row.median, row.arbitrary);"),
+    ("main.c", "row.median, row.total);", "row.median, row.intra);"),
+]
+
 # What document 01 leaves open and the comparison must let pass.
 ALLOWED = [
     ("request.c", "(long)floor(c.exact.w)", "(long)ceil(c.exact.w)"),
@@ -153,7 +220,12 @@ ALLOWED = [
     ("model.c", "llround(p->ln_median * 1e6)", "llround(p->ln_median * 1e6) + 4"),
     ("model.c", "llround(p->total * 1e6)", "llround(p->total * 1e6) - 4"),
     ("model.c", "llround(p->median * 1e10)", "llround(p->median * 1.000009e10)"),
+    ("model.c", "on_line(low->ln_median, high->ln_median, share)", "on_line(low->ln_median, high->ln_median, share) + 4e-6"),
+    ("model.c", "on_line(low->inter, high->inter, share)", "on_line(low->inter, high->inter, share) - 4e-6"),
 ]
+# The commands that take the proved programs' place, each in the option of its name: all, and those that print a predicted line.
+ALL = ["complete", "predict", "rows", "periods"]
+PRINTING = ["complete", "predict"]
 
 
 def edited(file, old, new):
@@ -172,12 +244,11 @@ def edited(file, old, new):
     return build(place, flags=["-std=c11"])
 
 
-def tried(script, program, *more):
+def tried(script, program, *more, commands=PRINTING):
     """Whether a script lets a program pass in the place of the proved ones, and what it said."""
-    done = subprocess.run(
-        [sys.executable, os.path.join(HERE, script), *more, "--complete", f"{program} complete", "--predict", f"{program} predict"],
-        stdout=subprocess.PIPE, stderr=subprocess.PIPE, text=True,
-    )
+    named = [word for name in commands for word in (f"--{name}", f"{program} {name}")]
+    words = [sys.executable, os.path.join(HERE, script), *more, *named]
+    done = subprocess.run(words, stdout=subprocess.PIPE, stderr=subprocess.PIPE, text=True)
     if done.returncode not in (0, 1) or done.stderr:
         sys.exit(f"{script} broke off: {done.stderr}")
     return done.returncode == 0, done.stdout
@@ -231,19 +302,19 @@ def try_tables(compare):
 
 
 def try_edits(compare):
-    """Tries the two lists above; how many of their programs fare otherwise than they must."""
+    """Tries the three lists above; how many of their programs fare otherwise than they must."""
     bad = 0
-    for edit in WRONG:
-        if tried("compare.py", edited(*edit), *compare)[0]:
+    for edit, commands in [(edit, PRINTING) for edit in WRONG] + [(edit, ALL) for edit in WRONG_PERIODS]:
+        if tried("compare.py", edited(*edit), *compare, commands=commands)[0]:
             bad += 1
             print(f"FAILED passes: {edit}")
     for edit in ALLOWED:
-        passed, said = tried("compare.py", edited(*edit), *compare)
+        passed, said = tried("compare.py", edited(*edit), *compare, commands=ALL)
         if not passed:
             bad += 1
             print(f"FAILED refused: {edit}\n{said}")
         print(f"{edit[2]}: " + "; ".join(line for line in said.split("\n") if "answers differ" in line))
-    print(f"{len(WRONG)} wrong programs and {len(ALLOWED)} allowed ones tried, {bad} fared otherwise")
+    print(f"{len(WRONG) + len(WRONG_PERIODS)} wrong programs and {len(ALLOWED)} allowed ones tried, {bad} fared otherwise")
     return bad
 
 

@@ -1,6 +1,7 @@
-//! A request line completed, or the shaking of its 24 measures predicted, by the Campbell-Bozorgnia 2008
-//! equations. A line is any bytes, without the LF; what is not a request is refused with number 14. A list
-//! of lines is answered in parts by [`Reader`], and by [`Answers`] for what writes to [`std::io::Write`].
+//! A request line completed, or its shaking predicted, in 24 measures or at any period from 0.010 to 10.0 s, by
+//! the Campbell-Bozorgnia 2008 equations. A line is any bytes, without the LF; what is not a request is refused
+//! with number 14. A list of lines is answered in parts by [`Reader`], and by [`Answers`] for what writes to
+//! [`std::io::Write`].
 //!
 //! Each function here calls one proved function of `libexport.a`; `c/xanhupive.h` says what is promised
 //! of each. The slices and references of Rust keep all that it asks of a caller.
@@ -25,11 +26,18 @@ pub const COLUMNS: usize = 6;
 /// How many numbers a spectrum has.
 pub const NUMBERS: usize = MEASURES * COLUMNS;
 
+/// The shortest period that may be asked for, in thousandths of a second.
+pub const SHORTEST_PERIOD: u64 = 10;
+
+/// The longest period that may be asked for, in thousandths of a second.
+pub const LONGEST_PERIOD: u64 = 10_000;
+
 extern "C" {
     fn xanhupive_complete_line(line: *const u8, line_length: usize, out: *mut u8, out_length: usize) -> usize;
     fn xanhupive_predict_line(line: *const u8, line_length: usize, out: *mut u8, out_length: usize) -> usize;
     fn xanhupive_measure(line: *const u8, line_length: usize, measure: u64, median: *mut f64, total: *mut f64) -> u32;
     fn xanhupive_spectrum(line: *const u8, line_length: usize, rows: *mut f64, rows_length: usize) -> u32;
+    fn xanhupive_period(line: *const u8, line_length: usize, period: u64, row: *mut f64, row_length: usize) -> u32;
 }
 
 /// The completing program's answer, at the start of `out`; or `None` where it is longer than `out`, and
@@ -73,6 +81,21 @@ pub fn spectrum_into(line: &[u8], rows: &mut [f64]) -> Result<(), u32> {
     // SAFETY: the two slices are valid for their lengths and, one of them lent alone, apart.
     match unsafe { xanhupive_spectrum(line.as_ptr(), line.len(), rows.as_mut_ptr(), rows.len()) } {
         0 => Ok(()),
+        refusal => Err(refusal),
+    }
+}
+
+/// The row at a period in thousandths of a second, or the refusal's number: 17 where the request is accepted and the
+/// period is not from [`SHORTEST_PERIOD`] to [`LONGEST_PERIOD`].
+///
+/// At the period of a measure it is that row of the spectrum. Between two, ln median and each sigma lie on the
+/// straight line over the logarithm of the period between the two rows, whole numbers of millionths as in all rows,
+/// and the median is the exponential of that ln median.
+pub fn period(line: &[u8], period: u64) -> Result<[f64; COLUMNS], u32> {
+    let mut row = [0.0; COLUMNS];
+    // SAFETY: the slice is valid for its length, and the row is a local of COLUMNS numbers.
+    match unsafe { xanhupive_period(line.as_ptr(), line.len(), period, row.as_mut_ptr(), COLUMNS) } {
+        0 => Ok(row),
         refusal => Err(refusal),
     }
 }

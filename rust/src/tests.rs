@@ -20,6 +20,14 @@ const MALFORMED: [&[u8]; 6] = [
     &[b'1'; 4096],
 ];
 
+/// The periods of measures 0 to 20, in thousandths of a second.
+const TABULATED: [u64; 21] = [
+    10, 20, 30, 50, 75, 100, 150, 200, 250, 300, 400, 500, 750, 1000, 1500, 2000, 3000, 4000, 5000, 7500, 10_000,
+];
+
+/// Periods out of range; the lower half of one of them is in it.
+const NO_PERIODS: [u64; 5] = [0, 9, 10_001, (1 << 32) + 370, u64::MAX];
+
 const PGA: u64 = 21;
 pub(crate) const MARK: u8 = 0xa5;
 
@@ -115,23 +123,74 @@ fn the_peak_acceleration() {
 }
 
 #[test]
+fn a_tabulated_period_is_that_of_the_spectrum() {
+    assert_eq!((TABULATED[0], TABULATED[20]), (SHORTEST_PERIOD, LONGEST_PERIOD));
+    for line in [GOOD, SOFT] {
+        let rows = spectrum(line).expect("accepted");
+        for (at, row) in TABULATED.iter().zip(rows) {
+            assert_eq!(period(line, *at), Ok(row), "{at}");
+        }
+    }
+}
+
+/// Whether each number of a row is whole and between those of its neighbours; with one to spare, and more of the median,
+/// since each is rounded.
+fn lies_between(row: [f64; COLUMNS], shorter: [f64; COLUMNS], longer: [f64; COLUMNS]) -> bool {
+    (0..COLUMNS).all(|k| {
+        let (low, high) = (shorter[k].min(longer[k]), shorter[k].max(longer[k]));
+        let spare = if k == 1 { 1.0 + row[k] / 250_000.0 } else { 1.0 };
+        (low - spare..=high + spare).contains(&row[k]) && row[k].fract() == 0.0
+    })
+}
+
+#[test]
+fn every_other_period_lies_between_its_neighbours() {
+    for line in [GOOD, SOFT] {
+        let rows = spectrum(line).expect("accepted");
+        for (gap, ends) in TABULATED.windows(2).enumerate() {
+            for at in ends[0] + 1..ends[1] {
+                let row = period(line, at).expect("accepted");
+                assert!(lies_between(row, rows[gap], rows[gap + 1]), "{at}: {row:?}");
+            }
+        }
+    }
+}
+
+/// The valve's spring at 0.37 s, by the published equations and the line between 0.30 and 0.40 s.
+#[test]
+fn the_valves_spring() {
+    let expected = [-495903.0, 6090208837.0, 541813.0, 216458.0, 583453.0, 618044.0];
+    let row = period(GOOD, 370).expect("accepted");
+    for (k, (number, near)) in row.into_iter().zip(expected).enumerate() {
+        let bound = if k == 1 { 2.0 + near / 500_000.0 } else { 1.0 };
+        assert!((number - near).abs() <= bound, "{number} is not near {near}");
+    }
+}
+
+#[test]
 fn refusals_in_their_order() {
     for line in MALFORMED {
         assert_eq!(answered(complete_line, line), b"no 14\n");
         assert_eq!(answered(predict_line, line), b"no 14\n");
         assert_eq!(measure(line, 24), Err(14));
         assert_eq!(spectrum_into(line, &mut []), Err(14));
+        assert_eq!(period(line, 370), Err(14));
+        assert!(NO_PERIODS.iter().all(|&at| period(line, at) == Err(14)));
     }
     for (line, refusal) in [(TOO_LARGE, 2), (ABOVE, 10)] {
         assert_eq!(measure(line, PGA), Err(refusal));
         assert_eq!(measure(line, 24), Err(refusal));
         assert_eq!(spectrum(line), Err(refusal));
         assert_eq!(spectrum_into(line, &mut []), Err(refusal));
+        assert_eq!(period(line, 370), Err(refusal));
+        assert!(NO_PERIODS.iter().all(|&at| period(line, at) == Err(refusal)));
     }
     assert!(measure(GOOD, 23).is_ok());
     assert_eq!(measure(GOOD, 24), Err(15));
     assert_eq!(measure(GOOD, u64::MAX), Err(15));
     assert_eq!(spectrum_into(GOOD, &mut []), Err(16));
+    assert!(period(GOOD, SHORTEST_PERIOD).is_ok() && period(GOOD, LONGEST_PERIOD).is_ok());
+    assert!(NO_PERIODS.iter().all(|&at| period(GOOD, at) == Err(17)));
 }
 
 #[test]
@@ -174,6 +233,28 @@ fn spectra_in_every_length() {
             assert_eq!(&numbers[10..10 + NUMBERS], whole.as_flattened());
             assert!(kept(&numbers[..10]) && kept(&numbers[10 + NUMBERS..]));
         }
+    }
+}
+
+/// What `period` never does: a row of any length lent. A period out of range is refused before a short row.
+#[test]
+fn rows_in_every_length() {
+    let mark = f64::from_bits(0x7ff8_0000_0000_abcd);
+    let kept = |numbers: &[f64]| numbers.iter().all(|number| number.to_bits() == mark.to_bits());
+    let whole = period(GOOD, 370).expect("accepted");
+    for lent in 0..COLUMNS + 9 {
+        let mut numbers = vec![mark; lent + 20];
+        let row = &mut numbers[10..10 + lent];
+        let mut lend = |line: &[u8], at| {
+            // SAFETY: the two slices are valid for their lengths and, one of them lent alone, apart.
+            unsafe { xanhupive_period(line.as_ptr(), line.len(), at, row.as_mut_ptr(), row.len()) }
+        };
+        assert_eq!((lend(b"", 9), lend(ABOVE, 9), lend(GOOD, 9)), (14, 10, 17));
+        let refusal = lend(GOOD, 370);
+        let written = if lent < COLUMNS { 0 } else { COLUMNS };
+        assert_eq!(refusal, if lent < COLUMNS { 16 } else { 0 });
+        assert_eq!(numbers[10..10 + written], whole[..written]);
+        assert!(kept(&numbers[..10]) && kept(&numbers[10 + written..]), "{lent} numbers lent");
     }
 }
 
