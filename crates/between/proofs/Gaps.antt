@@ -1,7 +1,7 @@
 -- Where a period stands among the tabulated ones: at one of them, or between two neighbours. One computed test says of all twenty gaps
 -- that the longer period is from 1.2 to 2 times the shorter. Assumes nothing.
 use Prim.Native.Nat.{ℕ, zero, suc, _+_, _-_, _*_, _≤_, _<_, zero-le, suc-le-suc}
-use mathlib.Core.Path.{_≡_, refl, sym, subst, ap}
+use mathlib.Core.Path.{_≡_, refl, sym, subst}
 use mathlib.Core.Bool.{Bool, true, false}
 use mathlib.Core.List.{List, [], _∷_}
 use native.Mathlib.Omega.{arith}
@@ -9,10 +9,10 @@ use native.Mathlib.Decide.{decLt}
 use native.Mathlib.Nat.{not-suc-le-zero, le-of-suc-le-suc}
 use lib.Dec.{T, leb, eqb, lit<}
 use lib.ListN.{getD, length}
-use borrow.Author.Tests.{le-leb, leb-true, leb-false, eqb-false, eq-eqb}
+use borrow.Author.Tests.{le-leb, leb-true, leb-false, eqb-false}
 use Rattle.exact.proofs.Computed.{run, run-from}
 use Rattle.tables.specs.Tables.{periods}
-use Rattle.model.proofs.Fair.{leAll, LeAll, le-all}
+use Rattle.model.proofs.Fair.{leAll, le-all}
 use Rattle.between.specs.Periods.{periodAt, reached, lastUpTo}
 use Rattle.between.specs.Fixed.{Gap}
 

@@ -2,9 +2,8 @@
 -- that ends within e units give a sum within e: no more than each end. The weight's own error, g units, counts as often as the exact
 -- ends are apart, D times one. A quarter of the difference, rounded, and the product over N/4, rounded, are 5 units more; and a
 -- rounding of the exact line is less than one. Assumes nothing.
-use Prim.Native.Nat.{ℕ, _+_, _-_, _*_, _/_, _≤_, _<_}
+use Prim.Native.Nat.{ℕ, _+_, _-_, _*_, _≤_, _<_}
 use mathlib.Core.Path.{_≡_, sym, ap, _∙_}
-use mathlib.Core.Logic.{_⊎_, inl, inr}
 use native.Mathlib.Omega.{arith}
 use native.Mathlib.Decide.{decLe}
 use native.Mathlib.Nat.{le-trans, le-of-eq, mul-pos, mul-le-mul-left, mul-le-mul-right, mul-assoc, mul-comm, mul-left-comm, mul-right-comm, mul-add, add-mul, le-of-mul-le-mul-left}

@@ -1,10 +1,10 @@
 -- A sigma of nine decimals lies within 485 units of the exact root, where its variance, 0.09 or more, is within 290: 290/(2 · 0.3) is
 -- 483.4, and the root is rounded down on both sides. Assumes nothing.
 use Prim.Native.Nat.{ℕ, _+_, _-_, _*_, _≤_, _<_}
-use mathlib.Core.Path.{_≡_, sym, subst, _∙_}
+use mathlib.Core.Path.{_≡_, sym, subst}
 use native.Mathlib.Omega.{arith}
 use native.Mathlib.Decide.{decLe}
-use native.Mathlib.Nat.{le-trans, le-of-lt, le-of-eq, lt-of-not-le, mul-le-mul, mul-le-mul-right, mul-assoc, mul-comm, mul-left-comm, mul-mul-mul-comm, mul-add, add-mul, mul-pos, le-of-mul-le-mul-right}
+use native.Mathlib.Nat.{le-trans, le-of-lt, le-of-eq, lt-of-not-le, mul-le-mul, mul-le-mul-right, mul-comm, mul-mul-mul-comm, mul-add, add-mul, mul-pos, le-of-mul-le-mul-right}
 use lib.Dec.{lit≤}
 use lib.IntN.{pos}
 use Rattle.exact.specs.Near.{NearZ}

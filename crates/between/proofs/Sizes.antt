@@ -1,9 +1,7 @@
 -- How large a row between two fine ones is: ln median lies where the two do, a sigma is at most 1.55. Assumes nothing.
-use Prim.Native.Nat.{ℕ, zero, suc, _*_, _≤_, zero-le}
-use mathlib.Core.Path.{_≡_}
+use Prim.Native.Nat.{ℕ, _*_, _≤_, zero-le}
 use native.Mathlib.Omega.{arith}
-use native.Mathlib.Nat.{le-trans, le-of-lt, mul-le-mul-right}
-use lib.Dec.{lit≤}
+use native.Mathlib.Nat.{le-of-lt}
 use lib.IntN.{pos}
 use Rattle.exact.specs.Near.{up}
 use Rattle.fixed.specs.Fixed.{E9}

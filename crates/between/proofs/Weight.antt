@@ -5,7 +5,7 @@ use Prim.Native.Nat.{ℕ, _+_, _-_, _*_, _/_, _≤_, _<_}
 use mathlib.Core.Path.{_≡_, sym, ap, subst, _∙_}
 use native.Mathlib.Omega.{arith}
 use native.Mathlib.Decide.{decLe}
-use native.Mathlib.Nat.{le-refl, le-trans, le-of-eq, add-le-add, le-add-left, mul-le-mul-left, mul-le-mul-right, mul-assoc, mul-comm, mul-right-comm, mul-left-comm, mul-add, add-mul, lt-div-mul-add, div-mul-le-self, div-le-of-le-mul, le-div-iff-mul-le}
+use native.Mathlib.Nat.{le-refl, le-trans, le-of-eq, add-le-add, le-add-left, mul-le-mul-left, mul-le-mul-right, mul-assoc, mul-comm, mul-right-comm, mul-add, add-mul, lt-div-mul-add, div-mul-le-self, div-le-of-le-mul, le-div-iff-mul-le}
 use lib.Dec.{lit≤}
 use lib.IntN.{pos}
 use Rattle.exact.specs.Near.{up, dn, NearZ}

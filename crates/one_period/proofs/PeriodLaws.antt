@@ -1,8 +1,8 @@
 -- The row at a period of an accepted request is as near the exact one as demand 3 asks; at a tabulated period it is the spectrum's row; no
 -- figure is lost as f64; `noPeriod` is given exactly when the request is accepted and the period is not covered. Assumes nothing.
-use Prim.Native.Nat.{ℕ, _+_, _/_, _≤_, _<_, zero-le}
+use Prim.Native.Nat.{ℕ, _+_, _≤_, _<_}
 use mathlib.Core.Path.{_≡_, refl, sym, ap, subst, _∙_}
-use mathlib.Core.Bool.{Bool, true, false, _&&_}
+use mathlib.Core.Bool.{Bool, true, false}
 use mathlib.Core.List.{List}
 use mathlib.Core.Logic.{_↔_}
 use native.Mathlib.Omega.{arith}
@@ -34,7 +34,6 @@ use Rattle.prediction.specs.Sizes.{Small}
 use Rattle.prediction.proofs.Completed.{accepted, in-range}
 use Rattle.prediction.proofs.RowLaws.{row-is, spectrum-done, by-completion, fixed-small}
 use Rattle.prediction.proofs.FloatLaws.{row-same}
-use Rattle.one_period.specs.declared.OnePeriod.{OnePeriod}
 use Rattle.one_period.specs.declared.OnePeriod.the-variants as P
 use Rattle.one_period.specs.OnePeriods.{periodFor, periodOf, floatPeriod, floatPeriodOf, RowNear, row-near, SamePeriod, same-row, same-number}
 

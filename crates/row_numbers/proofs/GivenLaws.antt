@@ -1,7 +1,7 @@
 -- What the call for one period leaves in lent numbers, by its answer and the room; any two outcomes that its contract permits are equal; and
 -- 0 is no refusal's number. Assumes nothing.
 use Prim.Native.Nat.{ℕ}
-use mathlib.Core.Path.{_≡_, refl, sym, ap, subst, _∙_}
+use mathlib.Core.Path.{_≡_, refl, sym, ap, _∙_}
 use mathlib.Core.Bool.{Bool, true, false}
 use mathlib.Core.List.{List}
 use native.Mathlib.Omega.{arith}
@@ -17,8 +17,6 @@ use Rattle.outcome.proofs.OneAnswer.{one-answer}
 use Rattle.between.specs.Periods.{covered}
 use Rattle.prediction.specs.declared.floats.FloatRow.{FloatRow}
 use Rattle.prediction.proofs.RowLaws.{by-completion}
-use Rattle.one_period.specs.declared.OnePeriod.{OnePeriod}
-use Rattle.one_period.specs.declared.OnePeriod.the-variants as P
 use Rattle.one_period.specs.declared.FloatPeriod.{FloatPeriod}
 use Rattle.one_period.specs.declared.FloatPeriod.the-variants as F
 use Rattle.one_period.specs.OnePeriods.{periodOf, floatPeriod, floatPeriodOf}

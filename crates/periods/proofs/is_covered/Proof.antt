@@ -1,5 +1,4 @@
 -- The second test decides where the first holds, and the first where it does not. Assumes nothing.
-use mathlib.Core.Path.{sym, _∙_}
 use borrow.Author.Tests.{le-leb, lt-leb}
 use Rattle.periods.proofs.is_covered.Statement.{statement}
 use Rattle.periods.proofs.is_covered.Tie as tie

@@ -1,15 +1,14 @@
 -- A line between numbers without a sign is without a sign, and not above both. Assumes nothing.
 use borrow.Author.Needs.{needs}
 use Prim.Native.Nat.{ℕ, _≤_}
-use mathlib.Core.Path.{_≡_, sym, ap, subst, _∙_}
+use mathlib.Core.Path.{_≡_, sym, subst}
 use native.Mathlib.Omega.{arith}
 use native.Mathlib.Nat.{le-trans}
 use lib.Dec.{lit≤}
-use lib.IntN.{ℤ, pos, natAbs}
+use lib.IntN.{pos, natAbs}
 use mir.Syntax.{w64}
-use mir.Val.{toZ}
 use mir.Facts.{toZ-ofZ, toZ-pos}
-use Rattle.exact.specs.Near.{up, dn}
+use Rattle.exact.specs.Near.{up}
 use Rattle.exact.proofs.Signed.{abs-parts, as-unsigned}
 use Rattle.fixed.specs.Fixed.{E9}
 use Rattle.between.specs.Fixed.{onLineFixed}

@@ -1,7 +1,6 @@
 -- The logarithm that divides is at least that of 1.2; the other is not above it. Assumes nothing.
 use borrow.Author.Needs.{needs}
 use mathlib.Core.Path.{ap₂, sym, subst}
-use native.Mathlib.Omega.{arith}
 use native.Mathlib.Nat.{le-trans}
 use Prim.Native.Nat.{ℕ, _*_, _/_, _≤_, _<_}
 use lib.Dec.{lit≤}

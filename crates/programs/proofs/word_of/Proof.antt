@@ -1,9 +1,7 @@
 -- The bytes of the argument are those of the first word, or of the second, or they are not. Assumes nothing.
 use borrow.Author.Needs.{needs}
-use Prim.Native.Nat.{ℕ}
 use mathlib.Core.Path.{_≡_}
 use mathlib.Core.Bool.{false}
-use mathlib.Core.List.{List}
 use denote.Ref.{now}
 use Rattle.numerals.specs.Render.{ascii}
 use Rattle.programs.specs.Arguments.{sameText, wordOf}
