@@ -5,7 +5,7 @@
  * line too where no whole number of 64 bits stands before the request. The comparison with the second program
  * reads it.
  */
-#include "xanhupive.h"
+#include "lines.h"
 
 #include <inttypes.h>
 #include <stdio.h>
@@ -45,16 +45,6 @@ static void answer(const uint8_t *line, size_t length) {
 
 int main(void) {
     uint8_t held[HELD];
-    size_t length = 0;
-    for (int c; (c = getchar()) != EOF;) {
-        if (c == '\n') {
-            answer(held, length);
-            length = 0;
-        } else if (length < HELD) {
-            held[length++] = (uint8_t)c;
-        }
-    }
-    if (length)
-        printf("no %d\n", XANHUPIVE_MALFORMED);
+    answer_lines(held, sizeof held, answer);
     return 0;
 }

@@ -3,7 +3,7 @@
  * standard output 24 lines for each (measure number, ln median, median, intra-event, inter-event, total
  * and arbitrary sigma) or "no" and the refusal's number. The comparison with the second program reads it.
  */
-#include "xanhupive.h"
+#include "lines.h"
 
 #include <stdio.h>
 
@@ -26,16 +26,6 @@ static void answer(const uint8_t *line, size_t length) {
 
 int main(void) {
     uint8_t held[HELD];
-    size_t length = 0;
-    for (int c; (c = getchar()) != EOF;) {
-        if (c == '\n') {
-            answer(held, length);
-            length = 0;
-        } else if (length < HELD) {
-            held[length++] = (uint8_t)c;
-        }
-    }
-    if (length)
-        printf("no %d\n", XANHUPIVE_MALFORMED);
+    answer_lines(held, sizeof held, answer);
     return 0;
 }
