@@ -5,21 +5,23 @@
 
 What it tries:
 
-- code: Tables 2 and 3, what follows from Table 3, the refusals' numbers and limits, the styles (crates tables, sigmas, refusals,
-  request, source_stage, path_stage, site_stage), the constants of the estimates and of the rupture distance (estimate, rupture), the
-  terms, the site, the sigmas, the short periods and the report (factors, terms, site, sigmas, short_periods, reports), the 64-bit
-  functions (reckon), the text form (text, numerals). A contract's numbers are claims and no code: they are not altered;
+- code: Tables 2 and 3, the periods, what follows from Table 3, the refusals' numbers and limits, the styles (crates tables, sigmas,
+  refusals, request, source_stage, path_stage, site_stage), the constants of the estimates and of the rupture distance (estimate,
+  rupture), the terms, the site, the sigmas, the short periods, the report and the row at any period (factors, terms, site, sigmas,
+  short_periods, reports, periods), the 64-bit functions (reckon), the text form (text, numerals), a list in parts (lists, kept), one
+  period as text and as numbers (answer, row_numbers), how many arguments a program has (programs). A contract's numbers are claims and
+  no code: they are not altered;
 - specs: every number of crates/*/specs but those of the table LEFT; one that neither a place nor LEFT names stops the script.
   --left tells which are left and why;
-- second: the constants, limits and tables of the second program, model.c and request.c with their headers.
+- second: the constants, limits and tables of the second program, model.c and request.c with their headers; in main.c how a period is
+  read and refused.
 
-In the code and in the specs the step is the proof of the lowest crate that must refuse; in the second program, and for the periods of the
-specs, it is the comparison of its tables with those of the specs, and of its answers with the proved programs and the rows of the static
-library. A number is altered
-by one up in its last digit, by one down where up shows nothing (DOWN), and not at all where neither does (SAME). Built before it:
-everything that `rt check` (all crates proved), `programs/link` (target/bin) and `c/test` (target/c/rows) leave in target/, as the gate
-does. The work is done in copies; the repository is not touched. --sample N takes N numbers of each place of PLACES and N of each kind of
-MORE. Exit 1 if one alteration passes.
+In the code and in the specs the step is the proof of the lowest crate that must refuse; in the second program it is the comparison of its
+tables with those of the specs, and of its answers with the proved programs and with the rows and periods of the static library. A number
+is altered by one up in its last digit, by one down where up shows nothing (DOWN), and not at all where neither does (SAME). Built before
+it: everything that `rt check` (all crates proved), `programs/link` (target/bin) and `c/test` (target/c/rows, target/c/periods) leave in
+target/, as the gate does. The work is done in copies; the repository is not touched. --sample N takes N numbers of each place of PLACES
+and N of each kind of MORE. Exit 1 if one alteration passes.
 """
 import argparse
 import collections
@@ -69,12 +71,15 @@ PLACES = [
     ("code", "crates/path_stage/src/lib.rt", re.compile(r"is_(within|allowed)\(\w+, |if 200000 < |if 90 <= "), "path_stage"),
     ("code", "crates/site_stage/src/lib.rt", re.compile(r"if !is_allowed\(|if 10000 < "), "site_stage"),
     ("code", "crates/request/src/lib.rt", re.compile(r"=> is_within\(f, "), "request"),
+    ("code", "crates/periods/src/*.rt", EVERY, "periods"),
     ("specs", "crates/tables/specs/*.antt", re.compile(r":     row[23] "), "tables"),
     ("specs", "crates/refusals/specs/*.antt", re.compile(r": \w+ = \d+$"), "refusals"),
     ("specs", "crates/outcome/specs/*.antt", of("sourceGiven sourceCompleted aboveRupture pathGiven pathCompleted siteGiven siteCompleted"),
      "completion"),
     ("specs", "crates/request/specs/*.antt", of("topMagnitude"), "completion"),
+    ("specs", "crates/between/specs/Fixed.antt", EVERY, "periods"),
     ("second", "second/model.c", of("TABLE[23]"), None),
+    ("second", "second/model.c", of("thousandths has_period row_at row_below share_of predict_period"), None),
     ("second", "second/request.c", re.compile(r"if \((missing|outside)\(|return outside|c\.(ztor|rrup|z25) > |\? 850 |c\.dip < "), None),
 ]
 
@@ -85,6 +90,7 @@ MORE = [
     ("code", "crates/refusals/src/lib.rt", of("RJB AZIMUTH ABOVE RRUP TOO_SHORT"), "path_stage"),
     ("code", "crates/refusals/src/lib.rt", of("BASIN"), "site_stage"),
     ("code", "crates/refusals/src/lib.rt", of("NO_MEASURE"), "prediction"),
+    ("code", "crates/refusals/src/lib.rt", of("NO_PERIOD"), "one_period"),
     ("code", "crates/refusals/src/lib.rt", of("TOO_LONG"), "lines"),
     ("code", "crates/refusals/src/lib.rt", of("MALFORMED"), "answer"),
     ("code", "crates/request/src/lib.rt", of("style_of value_of size_of"), "request"),
@@ -98,11 +104,15 @@ MORE = [
     ("code", "crates/sigmas/src/*.rt", EVERY, "sigmas"),
     ("code", "crates/short_periods/src/*.rt", EVERY, "short_periods"),
     ("code", "crates/reports/src/*.rt", EVERY, "reports"),
+    ("code", "crates/tables/src/lib.rt", of("PERIODS TABULATED"), "tables"),
     ("code", "crates/reckon/src/*.rt", EVERY, "reckon"),
     ("code", "crates/text/src/*.rt", EVERY, "text"),
     ("code", "crates/numerals/src/*.rt", EVERY, "numerals"),
     ("code", "crates/lists/src/*.rt", EVERY, "lists"),
     ("code", "crates/kept/src/*.rt", EVERY, "kept"),
+    ("code", "crates/answer/src/period.rt", EVERY, "answer"),
+    ("code", "crates/row_numbers/src/*.rt", EVERY, "row_numbers"),
+    ("code", "crates/programs/src/lib.rt", of("asked_of"), "programs"),
     # The exact value is held to known values by `exact`; what 64-bit functions reckon is held to it by `fixed` and to code by `reckon`.
     ("specs", "crates/exact/specs/*.antt", EVERY, "fixed"),
     ("specs", "crates/fixed/specs/*.antt", EVERY, "reckon"),
@@ -114,8 +124,7 @@ MORE = [
     ("specs", "crates/outcome/specs/*.antt", of("zhypOf"), "source_stage"),
     ("specs", "crates/outcome/specs/*.antt", of("tooShort"), "path_stage"),
     ("specs", "crates/outcome/specs/*.antt", EVERY, "completion"),
-    # Of the periods a proof reads only which are short; what each is, is held to the second program's.
-    ("specs", "crates/tables/specs/*.antt", of("periods"), None),
+    ("specs", "crates/tables/specs/*.antt", of("periods"), "tables"),
     ("specs", "crates/model/specs/*.antt", of("isShort"), "model"),
     # Where the code has an array's length, and PGA's place in it.
     ("specs", "crates/tables/specs/*.antt", of("measures"), "measures"),
@@ -126,11 +135,14 @@ MORE = [
     ("specs", "crates/model/specs/*.antt", of("lnAF atBase.* intra.* squaredFixed crossFixed sigmaOf"), "sigmas"),
     ("specs", "crates/model/specs/*.antt", of("report"), "reports"),
     ("specs", "crates/model/specs/*.antt", of("noRow"), "prediction"),
+    # Which periods are covered is held to the code; which two a period lies between, to what is reckoned there.
+    ("specs", "crates/between/specs/Periods.antt", of("covered"), "periods"),
+    ("specs", "crates/between/specs/Periods.antt", EVERY, "between"),
     ("specs", "crates/site/specs/*.antt", EVERY, "site"),
-    ("specs", "crates/lent/specs/*.antt", of("numberOf"), "export"),
+    ("specs", "crates/lent/specs/*.antt", of("numberOf"), "row_numbers"),
     ("specs", "crates/lent/specs/*.antt", EVERY, "lent"),
-    ("specs", "crates/numerals/specs/*.antt", of("digit0 digitsIn"), "numerals"),
-    ("specs", "crates/numerals/specs/*.antt", of("space minus digit9"), "text"),
+    ("specs", "crates/numerals/specs/*.antt", of("digit[09] digitsIn valueOf largest plainOf"), "numerals"),
+    ("specs", "crates/numerals/specs/*.antt", of("space minus"), "text"),
     ("specs", "crates/numerals/specs/*.antt", of("lf"), "lines"),
     ("specs", "crates/text/specs/*.antt", EVERY, "text"),
     ("specs", "crates/lines/specs/*.antt", EVERY, "lines"),
@@ -140,8 +152,10 @@ MORE = [
     ("specs", "crates/lists/specs/*.antt", EVERY, "lists"),
     ("specs", "crates/kept/specs/*.antt", EVERY, "kept"),
     ("specs", "crates/export/specs/*.antt", of("spectrumRefusal spectrumAfter"), "export"),
+    ("specs", "crates/programs/specs/*.antt", of("askedOf EndsAs"), "programs"),
     ("second", "second/model.c", of("C N ROCK SIGMA_AF PERIOD is_short f_mag f_flt f_hng_r f_hng_m f_hng f_sed rock_pga slope intra_squared"), None),
     ("second", "second/*.h", re.compile(r": #define "), None),
+    ("second", "second/main.c", re.compile(r"^(PERIOD_DIGITS|row_of|parse_period|period_before): (?!.*(for \(|digits = 0|return [01];))"), None),
     ("second", "second/request.c", of("style_of sine cosine estimate_(?!request).* hypocentre root_up across_strike figures_of"), None),
     ("second", "second/request.c", re.compile(r"^parse_field: .*(count|digits\[)|^parse_line: .*FIELDS"), None),
     ("second", "second/request.c", re.compile(r"^(source_refusal|complete): (?!.*(for \(|= \{))"), None),
@@ -149,7 +163,7 @@ MORE = [
 
 # In the tables that follow an entry has the files, the pattern that the number lies in, and why.
 
-# One more gives the same function, since two branches join at the limit: these go one down.
+# One more gives the same function, since two branches join at the limit, or is no byte: these go one down.
 DOWN = [
     ("crates/rules/specs/*", r"ltb v 180", "at 180 both rules give 6.745"),
     ("crates/estimate/src/*", r"if v < 180", "at 180 both rules give 6.745"),
@@ -167,6 +181,8 @@ DOWN = [
     ("second/model.c", r"^is_short: .*0\.25", "no period lies between 0.25 and 0.30 s"),
     ("crates/fixed/specs/*", r"lnHalved 18|lnDoubled 6", "the most halvings that a number can ask for: one more is never taken"),
     ("crates/reckon/src/*", r"if twos < 32", "at 32 both branches shift by nothing"),
+    ("second/main.c", r"PERIOD_DIGITS 20", "twenty-one digits are more than 64 bits hold, which is tested too"),
+    ("*", r"'9'", "10 is no byte"),
 ]
 
 # Not tried: neither one more nor one less changes an answer to any request, or only by what the comparison must allow.
@@ -176,10 +192,13 @@ SAME = [
     ("crates/reports/src/*", r"^(reports_of|all_shown_of):  +\w+: 0", "what fills an array before every row is written over"),
     ("crates/kept/src/*", r"\[0u8; LONGEST\]", "what fills an array before every byte is written over"),
     ("crates/text/specs/*", r"(?<=getD s 0 )0", "the byte of an empty word: no byte that is asked for"),
+    ("crates/numerals/specs/*", r"(?<=getD s 0 )0", "the byte past an end, which is not read"),
     ("crates/lines/specs/*", r"(?<=getD [ls] \d )0", "the byte past an end, where none is"),
     ("crates/lists/specs/*", r"(?<=\(longest \+ 1\) )0|(?<=replicate longest )0", "what fills a place that is not read"),
     ("second/model.c", r"(?<=ROCK, )0", "the A1100 of the rock's own site term, which its branch does not read"),
     ("second/model.c", r"ztor >= 20 \? 0", "no accepted ZTOR is above 15 km"),
+    ("second/model.c", r"^row_at: .*k = 0", "at the first period the line to the second begins, with the same row"),
+    ("second/main.c", r"(?<=digits \+ 1 : )0", "a line without a period, of which the comparison has none"),
     ("second/request.c", r"degrees > 90", "the sine is the same on both sides of 90"),
     ("second/request.c", r"r > 0", "the root is counted up again"),
     ("second/request.c", r"tenths > 0", "less than a metre, which is rounded down to 0"),
@@ -199,7 +218,8 @@ LEFT = [
     ("crates/geometry/specs/*", r"^RuptureInRange: .*", PROMISE),
     ("crates/model/specs/*", r"^(InRange|FineInRange|Accurate|RootNear|FineNear|minusFifteen|E20): .*", PROMISE),
     ("crates/prediction/specs/*", r"^(Small|ShownSmall|Is): .*", PROMISE),
-    ("crates/answer/specs/*", r"^longestLine: .*", PROMISE),
+    ("crates/between/specs/*", r"^(Gap|DrawnInRange): .*", PROMISE),
+    ("crates/answer/specs/*", r"^longest(Line|Period): .*", PROMISE),
     ("crates/tables/specs/*", r"^RootOf: .*", PROMISE),
     ("crates/refusals/specs/*", r"^upTo: .*", PROMISE),
     ("crates/text/specs/*", r"^numberOf: numberOf \(L\.Is r\) = 0", "0 for no refusal: only the number of a malformed line is read"),
@@ -208,10 +228,11 @@ LEFT = [
     ("crates/tables/specs/*", r"^no(Coefficients|Deviations): .*", "past the end of a list: never read"),
     ("crates/tables/specs/*", r"^neg: .*", "-0: no number is printed so"),
     ("crates/model/specs/*", r"^no(Fine|Shown): .*", "past the end of a list: never read"),
+    ("crates/between/specs/*", r"getD periods i 0", "past the end of a list: never read"),
     ("crates/outcome/specs/*", r"noFigure = .*|^figuresOf: .*", "zeros beside a refusal, where the code's answer has no figures: no law reads them"),
     ("crates/examples/specs/*", r".*", "document 01's examples: the test itself"),
-    ("crates/filter/specs/*", r"^statusOf: .*", "what programs/test tries, exit statuses and counts of arguments: the proof takes minutes"),
-    ("crates/programs/specs/*", r".*", "what programs/test tries, exit statuses and counts of arguments: the proof takes minutes"),
+    ("crates/filter/specs/*", r"^statusOf: .*", "exit statuses, which programs/test tries: the proof takes minutes"),
+    ("crates/programs/specs/*", r"^EndsAs: .*≤ 1", "the bound of an exit status: programs/test tries which it is"),
 ]
 
 
@@ -319,8 +340,8 @@ class Copy:
         """The gate's step for a place: whether it passes."""
         if crate:
             return self.passes("rt", "check", crate)
-        compare = ("second/compare.py", "1", "6000", "--tight")
-        # the completed requests are compared alone first, which is quick
+        compare = ("second/compare.py", "1", "6000", "--tight", "--periods", "target/c/periods")
+        # the completed requests and one period of each are compared alone first, which is quick
         steps = [("second/tables.py",), (*compare, "--no-predict"), (*compare, "--rows", "target/c/rows")]
         return all(self.passes("python3", *words, seconds=SECONDS) for words in steps)
 
