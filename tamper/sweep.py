@@ -79,8 +79,8 @@ PLACES = [
     ("specs", "crates/request/specs/*.antt", of("topMagnitude"), "completion"),
     ("specs", "crates/between/specs/Fixed.antt", EVERY, "periods"),
     ("second", "second/model.c", of("TABLE[23]"), None),
-    ("second", "second/model.c", of("thousandths has_period row_at row_below share_of predict_period"), None),
     ("second", "second/request.c", re.compile(r"if \((missing|outside)\(|return outside|c\.(ztor|rrup|z25) > |\? 850 |c\.dip < "), None),
+    ("second", "second/model.c", of("thousandths has_period row_at row_below share_of predict_period"), None),
 ]
 
 # More places, of which a sample takes some of each kind only.
@@ -152,6 +152,7 @@ MORE = [
     ("specs", "crates/lists/specs/*.antt", EVERY, "lists"),
     ("specs", "crates/kept/specs/*.antt", EVERY, "kept"),
     ("specs", "crates/export/specs/*.antt", of("spectrumRefusal spectrumAfter"), "export"),
+    ("specs", "crates/filter/specs/*.antt", of("statusOf"), "filter"),
     ("specs", "crates/programs/specs/*.antt", of("askedOf EndsAs"), "programs"),
     ("second", "second/model.c", of("C N ROCK SIGMA_AF PERIOD is_short f_mag f_flt f_hng_r f_hng_m f_hng f_sed rock_pga slope intra_squared"), None),
     ("second", "second/*.h", re.compile(r": #define "), None),
@@ -231,7 +232,6 @@ LEFT = [
     ("crates/between/specs/*", r"getD periods i 0", "past the end of a list: never read"),
     ("crates/outcome/specs/*", r"noFigure = .*|^figuresOf: .*", "zeros beside a refusal, where the code's answer has no figures: no law reads them"),
     ("crates/examples/specs/*", r".*", "document 01's examples: the test itself"),
-    ("crates/filter/specs/*", r"^statusOf: .*", "exit statuses, which programs/test tries: the proof takes minutes"),
     ("crates/programs/specs/*", r"^EndsAs: .*≤ 1", "the bound of an exit status: programs/test tries which it is"),
 ]
 
@@ -340,9 +340,10 @@ class Copy:
         """The gate's step for a place: whether it passes."""
         if crate:
             return self.passes("rt", "check", crate)
-        compare = ("second/compare.py", "1", "6000", "--tight", "--periods", "target/c/periods")
-        # the completed requests and one period of each are compared alone first, which is quick
-        steps = [("second/tables.py",), (*compare, "--no-predict"), (*compare, "--rows", "target/c/rows")]
+        compare = ("second/compare.py", "1", "6000", "--tight")
+        # the completed requests are compared first, with rows at periods, which is quick
+        quick = (*compare, "--no-predict", "--periods", "target/c/periods")
+        steps = [("second/tables.py",), quick, (*compare, "--rows", "target/c/rows")]
         return all(self.passes("python3", *words, seconds=SECONDS) for words in steps)
 
     def try_one(self, change):
