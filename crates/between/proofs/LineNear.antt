@@ -95,29 +95,17 @@ one-way N K v w v' w' e g D a1 a0 b1 b0 p1 p0 q1 q0 l1 l0 s1 s0 x1 x0 hN hK ev e
     E : ℕ
     E = N * K
 
-    -- the ends, weighed
-    ends-a : a1 * v * K + p0 * v ≤ p1 * v + a0 * v * K + e * K * v
-    ends-a =
+    -- an end, weighed
+    end : (c1 c0 z1 z0 u : ℕ) → c1 * K + z0 ≤ z1 + c0 * K + e * K → c1 * u * K + z0 * u ≤ z1 * u + c0 * u * K + e * K * u
+    end c1 c0 z1 z0 u h =
         omega (
           arith,
-          mul-le-mul-right v na,
-          add-mul (a1 * K) p0 v,
-          add-mul (p1 + a0 * K) (e * K) v,
-          add-mul p1 (a0 * K) v,
-          mul-right-comm a1 K v,
-          mul-right-comm a0 K v,
-        )
-
-    ends-b : b1 * w * K + q0 * w ≤ q1 * w + b0 * w * K + e * K * w
-    ends-b =
-        omega (
-          arith,
-          mul-le-mul-right w nb,
-          add-mul (b1 * K) q0 w,
-          add-mul (q1 + b0 * K) (e * K) w,
-          add-mul q1 (b0 * K) w,
-          mul-right-comm b1 K w,
-          mul-right-comm b0 K w,
+          mul-le-mul-right u h,
+          add-mul (c1 * K) z0 u,
+          add-mul (z1 + c0 * K) (e * K) u,
+          add-mul z1 (c0 * K) u,
+          mul-right-comm c1 K u,
+          mul-right-comm c0 K u,
         )
 
     share : e * K * v + e * K * w ≡ e * K * N
@@ -137,7 +125,7 @@ one-way N K v w v' w' e g D a1 a0 b1 b0 p1 p0 q1 q0 l1 l0 s1 s0 x1 x0 hN hK ev e
 
     -- the coarse line against the exact ends, at the coarse weight
     coarse : N * l1 * K + (p0 * v + q0 * w) ≤ p1 * v + q1 * w + N * l0 * K + (e * K * N + 5 * N * K)
-    coarse = omega (arith, ends-a, ends-b, share, line)
+    coarse = omega (arith, end a1 a0 p1 p0 v na, end b1 b0 q1 q0 w nb, share, line)
 
     -- and at the exact one
     changed :

@@ -10,22 +10,22 @@ use Rattle.exact.proofs.Quotients.{mul-small, mul-below, mul-above, quo
 use Rattle.exact.proofs.LnSeries.{lnTerms-split, lnTail, lnTail-mono, square-ninth}
 
 -- ---- sums and wider bounds
+pub above-add : (K e e' a b : ℕ) {a' b' : ℕ} → a' ≤ (a + e) * K → b' ≤ (b + e') * K → a' + b' ≤ (a + b + (e + e')) * K
+above-add K e e' a b h h' =
+    omega (
+      arith,
+      h,
+      h',
+      add-mul a e K,
+      add-mul b e' K,
+      add-mul (a + b) (e + e') K,
+      add-mul a b K,
+      add-mul e e' K,
+    )
+
 pub close-add : (K e e' a b : ℕ) {a' b' : ℕ} → Close K e a a' → Close K e' b b' → Close K (e + e') (a + b) (a' + b')
 close-add K e e' a b c c' =
-    record {
-      low = omega (arith, c .low, c' .low, add-mul a b K);
-      high =
-          omega (
-            arith,
-            c .high,
-            c' .high,
-            add-mul a e K,
-            add-mul b e' K,
-            add-mul (a + b) (e + e') K,
-            add-mul a b K,
-            add-mul e e' K,
-          );
-    }
+    record { low = omega (arith, c .low, c' .low, add-mul a b K); high = above-add K e e' a b (c .high) (c' .high) }
 
 pub close-wide : (K e e' a : ℕ) {a' : ℕ} → e ≤ e' → Close K e a a' → Close K e' a a'
 close-wide K e e' a h c =

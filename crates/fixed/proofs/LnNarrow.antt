@@ -20,7 +20,7 @@ use Rattle.exact.proofs.LnSeries.{powerAfter, oddAfter, lnTail, lnTail-mono, ln
 use Rattle.exact.proofs.LnRatio.{from-one, lnRatio-below, lnRatio-above}
 use Rattle.exact.proofs.LnWhole.{lnFrom-at, lnFrom-double}
 use Rattle.exact.proofs.LnExact.{L30, L30-unit, lnE-parts}
-use Rattle.exact.proofs.TwoScales.{close-ratio}
+use Rattle.exact.proofs.TwoScales.{above-add, close-ratio}
 use Rattle.fixed.specs.Fixed.{E12, K20, lnNarrow}
 
 -- ---- it grows
@@ -109,20 +109,7 @@ record Apart (K e f a b : ℕ) : Type 0 where
 apart-add :
     (K e e' f f' a b : ℕ) {a' b' : ℕ} → Apart K e f a a' → Apart K e' f' b b' → Apart K (e + e') (f + f') (a + b) (a' + b')
 apart-add K e e' f f' a b c c' =
-    record {
-      low = omega (arith, c .low, c' .low, add-mul a b K);
-      high =
-          omega (
-            arith,
-            c .high,
-            c' .high,
-            add-mul a f K,
-            add-mul b f' K,
-            add-mul (a + b) (f + f') K,
-            add-mul a b K,
-            add-mul f f' K,
-          );
-    }
+    record { low = omega (arith, c .low, c' .low, add-mul a b K); high = above-add K f f' a b (c .high) (c' .high) }
 
 -- a quotient by a whole number
 quotient-low : (d K c c' : ℕ) → 0 < d → c * K ≤ c' + 3 → c / d * K ≤ c' / d + 3
