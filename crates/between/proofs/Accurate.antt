@@ -14,6 +14,7 @@ use Rattle.exact.specs.Exact.{E30}
 use Rattle.exact.proofs.NearLaws.{near-wide}
 use Rattle.exact.proofs.Signed.{same-parts}
 use Rattle.fixed.specs.Fixed.{E9, K21, nearest}
+use Rattle.tables.specs.Tables.{periodAt}
 use Rattle.model.specs.declared.Scenario.{Scenario}
 use Rattle.model.specs.declared.Fine.{Fine}
 use Rattle.model.specs.declared.Row.{Row}
@@ -25,7 +26,7 @@ use Rattle.model.proofs.Demand.{fine-near, fine-in-range, demand-3}
 use Rattle.model.proofs.NearSums.{near-exact}
 use Rattle.model.proofs.Quotients.{pos-high}
 use Rattle.model.proofs.Reported.{report-near, median-one, median-low, median-high, median-fits}
-use Rattle.between.specs.Periods.{periodAt, lastUpTo, weight, onLine, sigmaOnLine, lineExact, exactFrom, exactAt}
+use Rattle.between.specs.Periods.{lastUpTo, weight, onLine, sigmaOnLine, lineExact, exactFrom, exactAt}
 use Rattle.between.specs.Fixed.{weightFixed, onLineFixed, fineSigma, sigmaOnLineFixed, toMillionths, drawnFixed, drawnReport, rowFrom, rowAt}
 use Rattle.between.proofs.Line.{line-between, line-plain}
 use Rattle.between.proofs.LineNear.{line-near}

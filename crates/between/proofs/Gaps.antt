@@ -11,9 +11,9 @@ use lib.Dec.{T, leb, eqb, lit<}
 use lib.ListN.{getD, length}
 use borrow.Author.Tests.{le-leb, leb-true, leb-false, eqb-false}
 use Rattle.exact.proofs.Computed.{run, run-from}
-use Rattle.tables.specs.Tables.{periods}
+use Rattle.tables.specs.Tables.{periods, periodAt}
 use Rattle.model.proofs.Fair.{leAll, le-all}
-use Rattle.between.specs.Periods.{periodAt, reached, lastUpTo}
+use Rattle.between.specs.Periods.{reached, lastUpTo}
 use Rattle.between.specs.Fixed.{Gap}
 
 -- ---- how far a list is reached

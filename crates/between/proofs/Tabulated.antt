@@ -7,10 +7,11 @@ use native.Mathlib.Omega.{arith}
 use lib.Dec.{T, eqb, eqb→eq}
 use borrow.Author.Tests.{eq-eqb}
 use Rattle.exact.proofs.Computed.{run, run-from}
+use Rattle.tables.specs.Tables.{periodAt}
 use Rattle.model.specs.declared.Scenario.{Scenario}
 use Rattle.model.specs.Accuracy.{exactOf}
 use Rattle.model.specs.Fixed.{fineFixed, rowFixed}
-use Rattle.between.specs.Periods.{covered, periodAt, lastUpTo, exactFrom, exactAt}
+use Rattle.between.specs.Periods.{covered, lastUpTo, exactFrom, exactAt}
 use Rattle.between.specs.Fixed.{weightFixed, drawnFixed, drawnReport, rowFrom, rowAt}
 
 -- its measure is the last that it reaches

@@ -9,13 +9,14 @@ use lib.Signed.{quotZ}
 use Rattle.exact.specs.Near.{up, dn}
 use Rattle.exact.specs.Root.{root}
 use Rattle.fixed.specs.Fixed.{E9, mulDiv, nearest, expFixed, lnNarrow}
+use Rattle.tables.specs.Tables.{periodAt}
 use Rattle.model.specs.declared.Scenario.{Scenario}
 use Rattle.model.specs.declared.Fine.{Fine}
 use Rattle.model.specs.declared.Row.{Row}
 use Rattle.model.specs.Equations.{most}
 use Rattle.model.specs.Fixed.{fineFixed, rowFixed}
 use Rattle.between.specs.declared.Drawn.{Drawn}
-use Rattle.between.specs.Periods.{periodAt, lastUpTo}
+use Rattle.between.specs.Periods.{lastUpTo}
 
 -- two neighbours among the tabulated periods: the longer is from 1.2 to 2 times the shorter
 pub record Gap (t1 t2 : ℕ) : Type 0 where

@@ -6,11 +6,10 @@ use mathlib.Core.Bool.{Bool, true, false, _&&_}
 use mathlib.Core.List.{List, [], _∷_}
 use lib.Dec.{leb, eqb}
 use lib.IntN.{ℤ, pos, _+ℤ_, _*ℤ_}
-use lib.ListN.{getD}
 use lib.Signed.{shrZ}
 use Rattle.exact.specs.Near.{up}
 use Rattle.exact.specs.Exact.{E30, lnE, expE}
-use Rattle.tables.specs.Tables.{periods}
+use Rattle.tables.specs.Tables.{periods, periodAt}
 use Rattle.model.specs.declared.Scenario.{Scenario}
 use Rattle.model.specs.Accuracy.{Exact, exactOf}
 
@@ -18,10 +17,6 @@ use Rattle.model.specs.Accuracy.{Exact, exactOf}
 -- from the shortest to the longest
 abbrev pub covered : ℕ → Bool
 covered t = leb 0_010 t && leb t 10_000
-
--- that of a measure
-abbrev pub periodAt : ℕ → ℕ
-periodAt i = getD periods i 0
 
 -- how many of some periods, from the first on, are not longer than t
 unfoldable pub reached : List ℕ → ℕ → ℕ

@@ -1,13 +1,12 @@
--- A measure that a function is handed has the rows of its number, and one that is made of rows read from the tables is such a measure.
--- Assumes nothing.
+-- A measure that a function is handed has the rows of its number, and the measure of a number is such a measure. Assumes nothing.
 use Prim.Native.Nat.{ℕ, _<_}
-use mathlib.Core.Path.{_≡_, sym, ap, _∙_}
-use Rattle.tables.specs.declared.Coefficients.{Coefficients}
-use Rattle.tables.specs.declared.Deviations.{Deviations}
+use mathlib.Core.Path.{_≡_, refl, sym, ap, subst, _∙_}
 use Rattle.tables.specs.Tables.{measures, coefficientsAt, deviationsAt}
 use Rattle.tables.specs.OfTables.{OfTable2, OfTable3}
 use Rattle.tables.proofs.RowsRead.{of-row, of-deviations}
-use Rattle.model.specs.Fixed.{crossFixed}
+use Rattle.model.specs.declared.Scenario.{Scenario}
+use Rattle.model.specs.declared.Fine.{Fine}
+use Rattle.model.specs.Fixed.{crossFixed, ownFixed}
 use Rattle.sigmas.specs.declared.Settled.{Settled}
 use Rattle.sigmas.specs.Settling.{settledOf}
 use Rattle.measures.specs.declared.Measure.{Measure}
@@ -36,9 +35,21 @@ module _ (m : Measure) (o : OfMeasure m) where
   pub of-table-3 : OfTable3 (m .d)
   of-table-3 = of-deviations (m .number) (m .d) (o .below) d-is
 
-pub of-rows :
-    (i : ℕ) (c : Coefficients) (d : Deviations) (s : Settled) → i < measures → c ≡ coefficientsAt i → d ≡ deviationsAt i
-    → s ≡ settledOf (deviationsAt i)
-    → OfMeasure (record { number = i; c = c; d = d; settled = s })
-unfolding measureAt
-of-rows i c d s h p q r = record { below = h; is = rw (p, q, r) }
+module _ {m : Measure} (i : ℕ) (e : m ≡ measureAt i) where
+  -- the measure of a number is such a measure
+  pub of-number : i < measures → OfMeasure m
+  unfolding measureAt
+  of-number h = subst OfMeasure (sym e) (record { below = h; is = refl })
+
+  -- its coefficients are that number's
+  pub row-2 : m .c ≡ coefficientsAt i
+  unfolding measureAt
+  row-2 = ap (λ (n : Measure). n .c) e
+
+  pub of-2 : i < measures → OfTable2 (m .c)
+  of-2 h = of-row i (m .c) h row-2
+
+  -- and so is its fine row
+  pub own-at : (x : Scenario) {f : Fine} → f ≡ ownFixed (m .number) x → f ≡ ownFixed i x
+  unfolding measureAt
+  own-at x f = f ∙ ap (λ (n : Measure). ownFixed (n .number) x) e

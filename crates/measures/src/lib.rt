@@ -8,8 +8,8 @@ use model::Scenario;
 use short_periods::is_short;
 use short_periods::not_below_pga;
 use sigmas::Settled;
-use sigmas::all_settled;
 use sigmas::intra_variance;
+use sigmas::settled_at;
 use sigmas::squared;
 use site::Rock;
 use site::Soil;
@@ -21,8 +21,8 @@ use tables::Coefficients;
 use tables::Deviations;
 use tables::MEASURES;
 use tables::PGA;
-use tables::all_coefficients;
-use tables::all_deviations;
+use tables::coefficients_at;
+use tables::deviations_at;
 use terms::Path;
 use terms::ln_sum;
 use terms::path_of;
@@ -36,7 +36,7 @@ ghost use Rattle.model.specs.Fixed.{lnOwnFixed, ownFixed, fineFixed, noFine};
 ghost use Rattle.factors.specs.Factoring.{factorsOf};
 ghost use Rattle.terms.specs.Paths.{pathOf};
 ghost use Rattle.site.specs.Sharing.{rockOf, soilOf};
-ghost use Rattle.measures.specs.Measuring.{OfMeasure};
+ghost use Rattle.measures.specs.Measuring.{measureAt, OfMeasure};
 
 // What belongs to a measure: its number, its rows of Tables 2 and 3, and what Table 3 alone fixes.
 pub struct Measure {
@@ -44,6 +44,18 @@ pub struct Measure {
     pub c: Coefficients,
     pub d: Deviations,
     pub settled: Settled,
+}
+
+// The measure of a number.
+fn measure_at(i: usize) -> Measure
+    ensures { λ m. ⌜ m ≡ measureAt i ⌝ }
+{
+    Measure {
+        number: i,
+        c: coefficients_at(i),
+        d: deviations_at(i),
+        settled: settled_at(i),
+    }
 }
 
 // The ln median of a measure by itself, in units of 10^-9.
@@ -104,35 +116,18 @@ pub fn fine_at(i: usize, x: Scenario) -> Fine
     requires { ⌜ (i < measures) × InRange x ⌝ }
     ensures { λ r. ⌜ r ≡ fineFixed i x ⌝ }
 {
-    let table2 = all_coefficients();
-    let table3 = all_deviations();
-    let settled = all_settled();
-    let pga = table2[PGA];
-    let c = table2[i];
-    let d = table3[i];
-    let known = settled[i];
-    let m = Measure {
-        number: i,
-        c: c,
-        d: d,
-        settled: known,
-    };
+    let m = measure_at(i);
+    let m0 = measure_at(PGA);
+    let c = m.c;
+    let c0 = m0.c;
     let f = factors_of(x);
-    let path = path_of(pga, x);
-    let rock = rock_of(pga, x, f, path);
+    let path = path_of(c0, x);
+    let rock = rock_of(c0, x, f, path);
     let own = own_from(m, x, f, next_path(path, c, x), soil_of(c, x, rock));
     if !is_short(i) {
         return own;
     }
-    let d0 = table3[PGA];
-    let known0 = settled[PGA];
-    let m0 = Measure {
-        number: PGA,
-        c: pga,
-        d: d0,
-        settled: known0,
-    };
-    not_below_pga(i, own, own_from(m0, x, f, path, soil_of(pga, x, rock)))
+    not_below_pga(i, own, own_from(m0, x, f, path, soil_of(c0, x, rock)))
 }
 
 // The fine rows of all measures. PGA's comes first, likewise; from there on measures that are alike in c6
@@ -149,18 +144,8 @@ pub fn fine_rows_of(x: Scenario) -> [Fine; MEASURES]
         arbitrary: 0,
     };
     let mut rows = [none; MEASURES];
-    let table2 = all_coefficients();
-    let table3 = all_deviations();
-    let settled = all_settled();
-    let c0 = table2[PGA];
-    let d0 = table3[PGA];
-    let known0 = settled[PGA];
-    let m0 = Measure {
-        number: PGA,
-        c: c0,
-        d: d0,
-        settled: known0,
-    };
+    let m0 = measure_at(PGA);
+    let c0 = m0.c;
     let f = factors_of(x);
     let mut path = path_of(c0, x);
     let rock = rock_of(c0, x, f, path);
@@ -170,15 +155,8 @@ pub fn fine_rows_of(x: Scenario) -> [Fine; MEASURES]
     let mut k = 0usize;
     while k < MEASURES {
         if k != PGA {
-            let c = table2[k];
-            let d = table3[k];
-            let known = settled[k];
-            let m = Measure {
-                number: k,
-                c: c,
-                d: d,
-                settled: known,
-            };
+            let m = measure_at(k);
+            let c = m.c;
             path = next_path(path, c, x);
             soil = next_soil(soil, c, x, rock);
             rows[k] = not_below_pga(k, own_from(m, x, f, path, soil), pga);

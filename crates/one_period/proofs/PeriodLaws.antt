@@ -17,6 +17,7 @@ use Rattle.outcome.specs.declared.Completion.the-variants as C
 use Rattle.outcome.specs.Refusals.{refusal}
 use Rattle.outcome.specs.Answers.{completed, completionOf, numberOf}
 use Rattle.outcome.proofs.ExactlyWhen.{accepted-by, number-is, number-most}
+use Rattle.tables.specs.Tables.{periodAt}
 use Rattle.model.specs.declared.Scenario.{Scenario}
 use Rattle.model.specs.declared.Row.{Row}
 use Rattle.model.specs.Accuracy.{InRange, Exact, exactOf}
@@ -24,7 +25,7 @@ use Rattle.model.specs.Rows.{noRow}
 use Rattle.model.specs.Fixed.{fineFixed}
 use Rattle.model.proofs.Demand.{fine-near, fine-in-range}
 use Rattle.model.proofs.Sizes.{ln-size}
-use Rattle.between.specs.Periods.{covered, periodAt, exactAt}
+use Rattle.between.specs.Periods.{covered, exactAt}
 use Rattle.between.specs.Fixed.{drawnFixed, drawnReport, toMillionths, rowAt}
 use Rattle.between.proofs.Accurate.{Weighed, by-place, line-median-fits, period-accurate}
 use Rattle.between.proofs.Sizes.{drawn-in-range}

@@ -15,7 +15,7 @@ use reckon::whole_root;
 use reports::at_least_one;
 use reports::row_at;
 use tables::PERIODS;
-use tables::all_periods;
+use tables::period_at;
 ghost use mathlib.Core.Path.{_≡_};
 ghost use Prim.Native.Nat.{_*_, _≤_, _<_};
 ghost use lib.IntN.{pos, natAbs};
@@ -46,10 +46,9 @@ fn last_up_to(t: u64) -> usize
     requires { ⌜ 10 ≤ t ⌝ }
     ensures { λ i. ⌜ i ≡ lastUpTo t ⌝ }
 {
-    let table = all_periods();
     let mut n = 1usize;
     while n < PERIODS {
-        if t < table[n] {
+        if t < period_at(n) {
             return n - 1;
         }
         n += 1;
@@ -142,13 +141,12 @@ pub fn row_at_period(t: u64, x: Scenario) -> Row
     requires { ⌜ (10 ≤ t) × (t ≤ 10000) × InRange x ⌝ }
     ensures { λ r. ⌜ r ≡ rowAt t x ⌝ }
 {
-    let table = all_periods();
     let i = last_up_to(t);
-    let t1 = table[i];
+    let t1 = period_at(i);
     if t1 == t {
         return row_at(i, x);
     }
-    let t2 = table[i + 1];
+    let t2 = period_at(i + 1);
     let w = weight_of(t, t1, t2);
     drawn_report(drawn_between(w, fine_at(i, x), fine_at(i + 1, x)))
 }

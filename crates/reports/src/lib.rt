@@ -8,24 +8,20 @@ use model::Scenario;
 use model::Shown;
 use reckon::exp_fixed;
 use reckon::round_div;
-use sigmas::Settled;
-use sigmas::all_settled;
 use sigmas::arbitrary_of;
 use sigmas::intra_of;
+use sigmas::settled_at;
 use sigmas::total_of;
-use tables::Deviations;
 use tables::MEASURES;
-use tables::all_deviations;
+use tables::deviations_at;
 ghost use mathlib.Core.Path.{_≡_};
 ghost use Prim.Native.Nat.{ℕ, _<_};
 ghost use lib.ListN.{length, getD};
 ghost use Rattle.tables.specs.Tables.{measures};
-ghost use Rattle.tables.specs.OfTables.{OfTable3};
 ghost use Rattle.model.specs.Accuracy.{InRange};
 ghost use Rattle.model.specs.Equations.{most};
 ghost use Rattle.model.specs.Fixed.{report, rowFixed, noFine, FineInRange};
 ghost use Rattle.model.specs.Rows.{shownOf, noRow, noShown};
-ghost use Rattle.sigmas.specs.Settling.{settledOf};
 
 // A median, at least 1.
 pub fn at_least_one(y: u64) -> u64
@@ -34,11 +30,13 @@ pub fn at_least_one(y: u64) -> u64
     if 1 < y { y } else { 1 }
 }
 
-// A fine row with all its figures. What is known of a row of Table 3 only spares roots.
-pub fn report_of(f: Fine, d: Deviations, known: Settled) -> Row
-    requires { ⌜ FineInRange f × OfTable3 d × (known ≡ settledOf d) ⌝ }
+// The fine row of a measure with all its figures. What is known of the measure only spares roots.
+pub fn report_of(i: usize, f: Fine) -> Row
+    requires { ⌜ (i < measures) × FineInRange f ⌝ }
     ensures { λ r. ⌜ r ≡ report f ⌝ }
 {
+    let d = deviations_at(i);
+    let known = settled_at(i);
     Row {
         ln: round_div(f.ln, 1_000),
         median: at_least_one(exp_fixed(f.ln)),
@@ -50,10 +48,12 @@ pub fn report_of(f: Fine, d: Deviations, known: Settled) -> Row
 }
 
 // What a sheet shows of it, with one root.
-pub fn shown_of(f: Fine, d: Deviations, known: Settled) -> Shown
-    requires { ⌜ FineInRange f × OfTable3 d × (known ≡ settledOf d) ⌝ }
+pub fn shown_of(i: usize, f: Fine) -> Shown
+    requires { ⌜ (i < measures) × FineInRange f ⌝ }
     ensures { λ r. ⌜ r ≡ shownOf (report f) ⌝ }
 {
+    let d = deviations_at(i);
+    let known = settled_at(i);
     Shown {
         ln: round_div(f.ln, 1_000),
         median: at_least_one(exp_fixed(f.ln)),
@@ -66,11 +66,7 @@ pub fn row_at(i: usize, x: Scenario) -> Row
     requires { ⌜ (i < measures) × InRange x ⌝ }
     ensures { λ r. ⌜ r ≡ rowFixed i x ⌝ }
 {
-    let table3 = all_deviations();
-    let settled = all_settled();
-    let d = table3[i];
-    let known = settled[i];
-    report_of(fine_at(i, x), d, known)
+    report_of(i, fine_at(i, x))
 }
 
 // What a sheet shows of one measure.
@@ -78,11 +74,7 @@ pub fn shown_at(i: usize, x: Scenario) -> Shown
     requires { ⌜ (i < measures) × InRange x ⌝ }
     ensures { λ r. ⌜ r ≡ shownOf (rowFixed i x) ⌝ }
 {
-    let table3 = all_deviations();
-    let settled = all_settled();
-    let d = table3[i];
-    let known = settled[i];
-    shown_of(fine_at(i, x), d, known)
+    shown_of(i, fine_at(i, x))
 }
 
 // All rows, each with all its figures.
@@ -99,14 +91,10 @@ fn reports_of(fine: [Fine; MEASURES]) -> [Row; MEASURES]
         arbitrary: 0,
     };
     let mut rows = [none; MEASURES];
-    let table3 = all_deviations();
-    let settled = all_settled();
     let mut k = 0usize;
     while k < MEASURES {
         let f = fine[k];
-        let d = table3[k];
-        let known = settled[k];
-        rows[k] = report_of(f, d, known);
+        rows[k] = report_of(k, f);
         k += 1;
     }
     rows
@@ -123,14 +111,10 @@ fn all_shown_of(fine: [Fine; MEASURES]) -> [Shown; MEASURES]
         sigma: 0,
     };
     let mut rows = [none; MEASURES];
-    let table3 = all_deviations();
-    let settled = all_settled();
     let mut i = 0usize;
     while i < MEASURES {
         let row = fine[i];
-        let d = table3[i];
-        let known = settled[i];
-        rows[i] = shown_of(row, d, known);
+        rows[i] = shown_of(i, row);
         i += 1;
     }
     rows

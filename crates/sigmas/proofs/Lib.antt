@@ -1,2 +1,1 @@
 pub mod LinearSite
-pub mod SettledRows

@@ -5,14 +5,12 @@ mod rows;
 use reckon::E9;
 use reckon::mul_div;
 use reckon::whole_root;
+pub use rows::settled_at;
 use tables::Deviations;
-use tables::MEASURES;
 ghost use mathlib.Core.Path.{_≡_};
-ghost use mathlib.Core.List.{map};
 ghost use Prim.Native.Nat.{_≤_};
 ghost use lib.IntN.{natAbs};
 ghost use Rattle.exact.specs.Near.{up};
-ghost use Rattle.tables.specs.Tables.{table3};
 ghost use Rattle.model.specs.Fixed.{squaredFixed, crossFixed, intraVarianceFixed, sigmaOf};
 ghost use Rattle.tables.specs.OfTables.{OfTable3};
 ghost use Rattle.sigmas.specs.Settling.{settledOf};
@@ -31,14 +29,6 @@ pub struct Settled {
     pub cross: u64,
     pub total: u64,
     pub arbitrary: u64,
-}
-
-// All of them, a row a measure, held to Table 3 by a computed test. Whoever needs several rows takes them
-// once: each call builds them anew.
-pub fn all_settled() -> [Settled; MEASURES]
-    ensures { λ r. ⌜ r ≡ map settledOf table3 ⌝ }
-{
-    rows::ROWS
 }
 
 // A deviation of Table 3 squared, in units of 10^-9.

@@ -120,6 +120,10 @@ noCoefficients = row2 (pos 0) 0 (pos 0) (pos 0) (pos 0) 0 0 0 (pos 0) 0 (pos 0) 
 abbrev pub noDeviations : Deviations
 noDeviations = row3 0 0 0 0 0 0
 
+-- the period of a measure
+abbrev pub periodAt : ℕ → ℕ
+periodAt i = getD periods i 0
+
 -- the coefficients of a measure
 unfoldable pub coefficientsAt : ℕ → Coefficients
 coefficientsAt i = getD table2 i noCoefficients

@@ -1,10 +1,13 @@
 // The numbers of the model: Tables 2 and 3 of Campbell and Bozorgnia 2008, constants of the program.
 // Every number is in thousandths, save k1, which is in m/s.
-ghost use mathlib.Core.Path.{_≡_};
-ghost use Rattle.tables.specs.Tables.{periods, table2, table3};
 
+mod periods;
 mod table2;
 mod table3;
+
+pub use periods::period_at;
+pub use table2::coefficients_at;
+pub use table3::deviations_at;
 
 // How many measures there are: the 21 periods, PGA, PGV, PGD.
 pub const MEASURES: usize = 24;
@@ -14,31 +17,6 @@ pub const PERIODS: usize = 21;
 
 // PGA's number among them.
 pub const PGA: usize = 21;
-
-// The periods, in thousandths of a second.
-const TABULATED: [u64; PERIODS] = [
-    10,
-    20,
-    30,
-    50,
-    75,
-    100,
-    150,
-    200,
-    250,
-    300,
-    400,
-    500,
-    750,
-    1_000,
-    1_500,
-    2_000,
-    3_000,
-    4_000,
-    5_000,
-    7_500,
-    10_000,
-];
 
 // A row of Table 2, each field under the paper's name.
 pub struct Coefficients {
@@ -69,25 +47,4 @@ pub struct Deviations {
     pub sT: u64,
     pub sArb: u64,
     pub rho: u64,
-}
-
-// Table 2, a row a measure. Whoever needs several rows takes the table once: each call builds it anew.
-pub fn all_coefficients() -> [Coefficients; MEASURES]
-    ensures { λ r. ⌜ r ≡ table2 ⌝ }
-{
-    table2::ROWS
-}
-
-// Table 3, likewise.
-pub fn all_deviations() -> [Deviations; MEASURES]
-    ensures { λ r. ⌜ r ≡ table3 ⌝ }
-{
-    table3::ROWS
-}
-
-// The periods of measures 0 to 20.
-pub fn all_periods() -> [u64; PERIODS]
-    ensures { λ r. ⌜ r ≡ periods ⌝ }
-{
-    TABULATED
 }

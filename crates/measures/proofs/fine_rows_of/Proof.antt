@@ -12,13 +12,12 @@ use Rattle.model.specs.declared.Fine.{Fine}
 use Rattle.site.specs.declared.Soil.{Soil}
 use Rattle.terms.specs.declared.Path.{Path}
 use Rattle.tables.specs.Tables.{PGA}
+use Rattle.model.specs.Fixed.{ownFixed}
 use Rattle.model.proofs.ShortPeriods.{fine-pga, fine-raised}
 use Rattle.terms.specs.Paths.{pathOf}
 use Rattle.site.specs.Sharing.{soilOf}
 use Rattle.measures.proofs.FilledRows.{Filled, set-filled, pass-filled, path-again, soil-again}
-use Rattle.tables.proofs.RowsRead.{of-row, read-2, read-3}
-use Rattle.sigmas.proofs.SettledRows.{read-settled}
-use Rattle.measures.proofs.MeasureRead.{of-rows}
+use Rattle.measures.proofs.MeasureRead.{of-number, row-2, of-2, own-at}
 use Rattle.measures.proofs.fine_rows_of.Statement.{statement}
 use Rattle.measures.proofs.fine_rows_of.Tie as tie
 
@@ -37,134 +36,87 @@ same-turn x k {rows} {rows'} {path} {path'} {soil} {soil'} e f g t =
     (subst (λ (p : Path). Turn x rows' p soil k) (sym f) (subst (λ (s : Soil). Turn x rows' path' s k) (sym g) t))
 
 abbrev Inv-loop : tie.InvT-loop
-Inv-loop x rows₀ table2 table3 settled f path₀ rock soil₀ pga k₀ rows path soil k = Turn x rows path soil k
+Inv-loop x rows₀ f path₀ rock soil₀ pga k₀ rows path soil k = Turn x rows path soil k
 
 abbrev μ-loop : tie.MeasureT-loop
-μ-loop x rows₀ table2 table3 settled f path₀ rock soil₀ pga k₀ rows path soil k = 24 - k
+μ-loop x rows₀ f path₀ rock soil₀ pga k₀ rows path soil k = 24 - k
 
 -- ---- before the loop
-all-coefficients-requires : tie.Need-all-coefficients-requires Inv-loop μ-loop
-all-coefficients-requires c κs = search needs
-
-all-deviations-requires : tie.Need-all-deviations-requires Inv-loop μ-loop
-all-deviations-requires c κs = search needs
-
-all-settled-requires : tie.Need-all-settled-requires Inv-loop μ-loop
-all-settled-requires c κs = search needs
-
-array-copy-out-c0 : tie.Need-array-copy-out-c0 Inv-loop μ-loop
-array-copy-out-c0 c = search needs
-
-array-copy-out-d0 : tie.Need-array-copy-out-d0 Inv-loop μ-loop
-array-copy-out-d0 c = search needs
-
-array-copy-out-known0 : tie.Need-array-copy-out-known0 Inv-loop μ-loop
-array-copy-out-known0 c = search needs
+measure-at-requires : tie.Need-measure-at-requires Inv-loop μ-loop
+measure-at-requires c κs = search needs
 
 factors-of-requires : tie.Need-factors-of-requires Inv-loop μ-loop
 factors-of-requires c κs = search needs
 
 path-of-requires : tie.Need-path-of-requires Inv-loop μ-loop
-path-of-requires c κs =
-    let t = c .before .before .before .before .before .before in
-    (of-row PGA _ (lit< tt) (read-2 PGA (t .all-coefficients .ensures)), t .before .pre)
+path-of-requires c κs = let m = c .before .before in (of-2 PGA (m .measure-at .ensures) (lit< tt), m .before .pre)
 
 rock-of-requires : tie.Need-rock-of-requires Inv-loop μ-loop
 rock-of-requires c κs =
     let f = c .before in
-    let t = f .before .before .before .before .before .before in (
-      read-2 PGA (t .all-coefficients .ensures),
-      t .before .pre,
-      f .factors-of .ensures,
-      c .path-of .ensures,
-    )
+    let m = f .before .before in
+    (row-2 PGA (m .measure-at .ensures), m .before .pre, f .factors-of .ensures, c .path-of .ensures)
 
 soil-of-requires : tie.Need-soil-of-requires Inv-loop μ-loop
 soil-of-requires c κs =
-    let t = c .before .before .before .before .before .before .before .before in
-    (of-row PGA _ (lit< tt) (read-2 PGA (t .all-coefficients .ensures)), t .before .pre, c .rock-of .ensures)
+    let m = c .before .before .before .before in
+    (of-2 PGA (m .measure-at .ensures) (lit< tt), m .before .pre, c .rock-of .ensures)
 
 own-from-requires : tie.Need-own-from-requires Inv-loop μ-loop
 own-from-requires c κs =
     let p = c .before .before in
     let f = p .before in
-    let k = f .before .before .before .before in
-    let d = k .before in
-    let t = d .before in (
-      of-rows PGA _ _ _ (lit< tt) (read-2 PGA (t .all-coefficients .ensures)) (read-3 PGA (d .all-deviations .ensures))
-          (read-settled PGA (k .all-settled .ensures)),
-      t .before .pre,
+    let m = f .before .before in (
+      of-number PGA (m .measure-at .ensures) (lit< tt),
+      m .before .pre,
       f .factors-of .ensures,
       p .path-of .ensures,
       c .soil-of .ensures,
     )
+
+-- PGA's own row
+own-pga : (c : tie.After-own-from Inv-loop μ-loop) → c .own-from .result ≡ ownFixed PGA (c .before .before .before .before .before .before .before .args .x)
+own-pga c =
+    let m = c .before .before .before .before .before .before in
+    own-at PGA (m .measure-at .ensures) (m .before .args .x) (c .own-from .ensures)
 
 array-set-from-rows : tie.Need-array-set-from-rows Inv-loop μ-loop
 array-set-from-rows c = search needs
 
 loop-holds : tie.Need-loop-holds Inv-loop μ-loop
 loop-holds c =
-    let x = c .before .before .before .before .before .before .before .before .before .before .before .args .x in
+    let x = c .before .before .before .before .before .before .before .args .x in
     record {
-      filled = record { whole = refl; pga = fine-pga x (c .own-from .ensures); below = λ j l. absurd (omega (arith, l)) };
+      filled = record { whole = refl; pga = fine-pga x (own-pga c); below = λ j l. absurd (omega (arith, l)) };
       path-is = path-again x _ _ (c .before .before .before .path-of .ensures);
       soil-is = soil-again x _ _ (c .before .soil-of .ensures);
       end = omega arith;
     }
 
 -- ---- a turn
-mul-c : tie.Need-mul-c Inv-loop μ-loop
-mul-c c = search needs
-
-array-copy-out-c : tie.Need-array-copy-out-c Inv-loop μ-loop
-array-copy-out-c c = search needs
-
-mul-d : tie.Need-mul-d Inv-loop μ-loop
-mul-d c = search needs
-
-array-copy-out-d : tie.Need-array-copy-out-d Inv-loop μ-loop
-array-copy-out-d c = search needs
-
-mul-known : tie.Need-mul-known Inv-loop μ-loop
-mul-known c = search needs
-
-array-copy-out-known : tie.Need-array-copy-out-known Inv-loop μ-loop
-array-copy-out-known c = search needs
+measure-at-requires-2 : tie.Need-measure-at-requires-2 Inv-loop μ-loop
+measure-at-requires-2 c κs = search needs
 
 next-path-requires : tie.Need-next-path-requires Inv-loop μ-loop
 next-path-requires c κs =
-    let l = c .before .before .before .before in
-    let k = l .before .loop .k in
-    let h = l .before .before .before .before in
-    let t = h .before .before .before .before .before .before .before .before in (
-      of-row k _ (l .loop-test .taken) (read-2 k (t .all-coefficients .ensures)),
-      t .before .pre,
-      l .before .loop .inv .path-is,
-    )
+    let m = c .before in
+    let l = m .before .before in
+    (of-2 (l .before .loop .k) (m .measure-at2 .ensures) (l .loop-test .taken), l .before .before .before .before .before .before .before .before .before .pre, l .before .loop .inv .path-is)
 
 next-soil-requires : tie.Need-next-soil-requires Inv-loop μ-loop
 next-soil-requires c κs =
-    let l = c .before .before .before .before .before in
-    let k = l .before .loop .k in
-    let h = l .before .before .before .before in
-    let t = h .before .before .before .before .before .before .before .before in (
-      of-row k _ (l .loop-test .taken) (read-2 k (t .all-coefficients .ensures)),
-      t .before .pre,
-      h .rock-of .ensures,
-      l .before .loop .inv .soil-is,
-    )
+    let m = c .before .before in
+    let l = m .before .before in
+    let r = l .before .before .before .before in
+    (of-2 (l .before .loop .k) (m .measure-at2 .ensures) (l .loop-test .taken), r .before .before .before .before .before .pre, r .rock-of .ensures, l .before .loop .inv .soil-is)
 
 own-from-requires-2 : tie.Need-own-from-requires-2 Inv-loop μ-loop
 own-from-requires-2 c κs =
-    let l = c .before .before .before .before .before .before in
-    let k = l .before .loop .k in
-    let f = l .before .before .before .before .before .before in
-    let n = f .before .before .before .before in
-    let d = n .before in
-    let t = d .before in (
-      of-rows k _ _ _ (l .loop-test .taken) (read-2 k (t .all-coefficients .ensures)) (read-3 k (d .all-deviations .ensures))
-          (read-settled k (n .all-settled .ensures)),
-      t .before .pre,
+    let m = c .before .before .before in
+    let l = m .before .before in
+    let f = l .before .before .before .before .before .before in (
+      of-number (l .before .loop .k) (m .measure-at2 .ensures) (l .loop-test .taken),
+      f .before .before .before .pre,
       f .factors-of .ensures,
       c .before .next-path .ensures,
       c .next-soil .ensures,
@@ -177,7 +129,7 @@ mul-rows : tie.Need-mul-rows Inv-loop μ-loop
 mul-rows c = search needs
 
 array-set-from-rows-2 : tie.Need-array-set-from-rows-2 Inv-loop μ-loop
-array-set-from-rows-2 c = c .before .before .before .before .before .before .before .before .loop-test .taken
+array-set-from-rows-2 c = c .before .before .before .before .before .before .before .loop-test .taken
 
 add-k : tie.Need-add-k Inv-loop μ-loop
 add-k c = search needs
@@ -190,18 +142,18 @@ loop-again c =
     let t = c .before in
     let l = t .before in
     let p = l .before in
-    let x = p .before .before .before .before .before .before .before .before .before .before .before .args .x in
+    let x = p .before .before .before .before .before .before .before .args .x in
     let k = l .loop .k in
     ⊎-elim
     (λ w.
-    same-turn x (k + 1) (w .8) (w .9) (w .10)
+    same-turn x (k + 1) (w .7) (w .8) (w .9)
     (record {
       filled =
           set-filled x (l .loop .rows) k _ (t .loop-test .taken) (w .0 .taken)
-          (w .7 .ensures ∙ fine-raised k x (w .6 .ensures) (p .own-from .ensures))
+          (w .6 .ensures ∙ fine-raised k x (own-at k (w .1 .ensures) x (w .5 .ensures)) (own-pga p))
           (l .loop .inv .filled);
-      path-is = path-again x _ _ (w .4 .ensures);
-      soil-is = soil-again x _ _ (w .5 .ensures);
+      path-is = path-again x _ _ (w .3 .ensures);
+      soil-is = soil-again x _ _ (w .4 .ensures);
       end = omega (arith, t .loop-test .taken);
     }))
     (λ w.
@@ -225,12 +177,7 @@ fine-rows-of-spec =
     (tie.spec
     Inv-loop
     μ-loop
-    all-coefficients-requires
-    all-deviations-requires
-    all-settled-requires
-    array-copy-out-c0
-    array-copy-out-d0
-    array-copy-out-known0
+    measure-at-requires
     factors-of-requires
     path-of-requires
     rock-of-requires
@@ -238,12 +185,7 @@ fine-rows-of-spec =
     own-from-requires
     array-set-from-rows
     loop-holds
-    mul-c
-    array-copy-out-c
-    mul-d
-    array-copy-out-d
-    mul-known
-    array-copy-out-known
+    measure-at-requires-2
     next-path-requires
     next-soil-requires
     own-from-requires-2

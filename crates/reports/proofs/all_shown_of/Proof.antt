@@ -1,30 +1,21 @@
 -- What is shown of the rows behind k is there. Assumes nothing.
 use borrow.Author.Needs.{needs}
 use Prim.Native.Nat.{ℕ, _-_}
-use mathlib.Core.Path.{refl, sym, ap, _∙_}
+use mathlib.Core.Path.{refl}
 use native.Mathlib.Omega.{arith}
 use lib.ListN.{getD}
 use Rattle.tables.specs.Tables.{measures}
-use Rattle.tables.proofs.RowsRead.{of-deviations, read-3}
 use Rattle.model.specs.Fixed.{report, noFine}
 use Rattle.model.specs.Rows.{shownOf, noShown}
-use Rattle.sigmas.specs.Settling.{settledOf}
-use Rattle.sigmas.proofs.SettledRows.{read-settled}
 use Rattle.reports.proofs.FilledRows.{Filled, set-filled}
 use Rattle.reports.proofs.all_shown_of.Statement.{statement}
 use Rattle.reports.proofs.all_shown_of.Tie as tie
 
 abbrev Inv-loop : tie.InvT-loop
-Inv-loop fine rows₀ table3 settled i₀ rows i = Filled noShown (λ (j : ℕ). shownOf (report (getD fine j noFine))) rows i
+Inv-loop fine rows₀ i₀ rows i = Filled noShown (λ (j : ℕ). shownOf (report (getD fine j noFine))) rows i
 
 abbrev μ-loop : tie.MeasureT-loop
-μ-loop fine rows₀ table3 settled i₀ rows i = measures - i
-
-all-deviations-requires : tie.Need-all-deviations-requires Inv-loop μ-loop
-all-deviations-requires c κs = search needs
-
-all-settled-requires : tie.Need-all-settled-requires Inv-loop μ-loop
-all-settled-requires c κs = search needs
+μ-loop fine rows₀ i₀ rows i = measures - i
 
 loop-holds : tie.Need-loop-holds Inv-loop μ-loop
 loop-holds c = record { whole = refl; end = omega arith; below = λ j l. absurd (omega (arith, l)) }
@@ -35,46 +26,27 @@ mul-row c = search needs
 array-copy-out-row : tie.Need-array-copy-out-row Inv-loop μ-loop
 array-copy-out-row c = search needs
 
-mul-d : tie.Need-mul-d Inv-loop μ-loop
-mul-d c = search needs
-
-array-copy-out-d : tie.Need-array-copy-out-d Inv-loop μ-loop
-array-copy-out-d c = search needs
-
-mul-known : tie.Need-mul-known Inv-loop μ-loop
-mul-known c = search needs
-
-array-copy-out-known : tie.Need-array-copy-out-known Inv-loop μ-loop
-array-copy-out-known c = search needs
-
 shown-of-requires : tie.Need-shown-of-requires Inv-loop μ-loop
 shown-of-requires c κs =
-    let l = c .before .before .before in
-    let k = l .before .loop .i in
-    let n = l .before .before in
-    let d = n .before in
-    let s = d .before in
-    let row = read-3 k (d .all-deviations .ensures) in (
-      s .pre k (l .loop-test .taken),
-      of-deviations k _ (l .loop-test .taken) row,
-      read-settled k (n .all-settled .ensures) ∙ ap settledOf (sym row),
-    )
+    let l = c .before in
+    let h = l .loop-test .taken in
+    (h, l .before .before .pre (l .before .loop .i) h)
 
 mul-rows : tie.Need-mul-rows Inv-loop μ-loop
 mul-rows c = search needs
 
 array-set-from-rows : tie.Need-array-set-from-rows Inv-loop μ-loop
-array-set-from-rows c = c .before .before .before .before .loop-test .taken
+array-set-from-rows c = c .before .before .loop-test .taken
 
 add-i : tie.Need-add-i Inv-loop μ-loop
 add-i c = search needs
 
 loop-less : tie.Need-loop-less Inv-loop μ-loop
-loop-less c = omega (arith, c .before .before .before .before .loop-test .taken)
+loop-less c = omega (arith, c .before .before .loop-test .taken)
 
 loop-again : tie.Need-loop-again Inv-loop μ-loop
 loop-again c =
-    let i = c .before .before .before .before in
+    let i = c .before .before in
     let l = i .before in
     set-filled noShown _ (l .loop .rows) (l .loop .i) _ (i .loop-test .taken) (c .shown-of .ensures) (l .loop .inv)
 
@@ -89,15 +61,9 @@ all-shown-of-spec =
     (tie.spec
     Inv-loop
     μ-loop
-    all-deviations-requires
-    all-settled-requires
     loop-holds
     mul-row
     array-copy-out-row
-    mul-d
-    array-copy-out-d
-    mul-known
-    array-copy-out-known
     shown-of-requires
     mul-rows
     array-set-from-rows

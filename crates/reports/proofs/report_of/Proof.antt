@@ -1,40 +1,63 @@
 -- Each field by its own function; ln median lies in the exponential's range. Assumes nothing.
 use borrow.Author.Needs.{needs}
+use mathlib.Core.Path.{_≡_}
 use native.Mathlib.Omega.{arith}
 use native.Mathlib.Nat.{le-trans}
 use lib.Dec.{lit≤}
 use mir.Facts.{toZ-ofZ}
+use Rattle.tables.specs.OfTables.{OfTable3}
 use Rattle.model.specs.Fixed.{report}
+use Rattle.sigmas.specs.Settling.{settledOf}
 use Rattle.reports.proofs.LnFits.{ln-fits, ln-abs, nearest-fits}
+use Rattle.reports.proofs.OneRow.{one-row}
 use Rattle.reports.proofs.report_of.Statement.{statement}
 use Rattle.reports.proofs.report_of.Tie as tie
 
+deviations-at-requires : tie.Need-deviations-at-requires
+deviations-at-requires c κs = search needs
+
+settled-at-requires : tie.Need-settled-at-requires
+settled-at-requires c κs = search needs
+
 round-div-requires : tie.Need-round-div-requires
 round-div-requires c κs =
-    let s = c .before in
+    let s = c .before .before .before in
     let f = s .args .f in
-    simp (toZ-ofZ (ln-fits (f .ln) (s .pre .0 .ln-low) (s .pre .0 .ln-high))) (omega (arith, ln-abs (f .ln) (s .pre .0 .ln-low) (s .pre .0 .ln-high)), lit≤ tt, lit≤ tt)
+    let r = s .pre .1 in
+    simp (toZ-ofZ (ln-fits (f .ln) (r .ln-low) (r .ln-high))) (omega (arith, ln-abs (f .ln) (r .ln-low) (r .ln-high)), lit≤ tt, lit≤ tt)
 
 exp-fixed-requires : tie.Need-exp-fixed-requires
 exp-fixed-requires c κs =
-    let s = c .before .before .before in
-    simp (toZ-ofZ (ln-fits (s .args .f .ln) (s .pre .0 .ln-low) (s .pre .0 .ln-high)))
-    (le-trans (s .pre .0 .ln-high) (lit≤ tt), le-trans (s .pre .0 .ln-low) (lit≤ tt))
+    let s = c .before .before .before .before .before in
+    let r = s .pre .1 in
+    simp (toZ-ofZ (ln-fits (s .args .f .ln) (r .ln-low) (r .ln-high))) (le-trans (r .ln-high) (lit≤ tt), le-trans (r .ln-low) (lit≤ tt))
 
 at-least-one-requires : tie.Need-at-least-one-requires
 at-least-one-requires c κs = search needs
 
-intra-of-requires : tie.Need-intra-of-requires
-intra-of-requires c κs = search needs
+-- the measure's rows, as the sigmas ask for them
+known :
+    (k : tie.After-settled-at)
+    → OfTable3 (k .before .deviations-at .result) × (k .settled-at .result ≡ settledOf (k .before .deviations-at .result))
+known k = one-row (k .before .before .args .i) (k .before .before .pre .0) (k .before .deviations-at .ensures) (k .settled-at .ensures)
 
-mul-t8 : tie.Need-mul-t8
-mul-t8 c = search needs
+intra-of-requires : tie.Need-intra-of-requires
+intra-of-requires c κs =
+    let k = c .before .before .before .before .before in
+    (known k .0, k .before .before .pre .1 .intra-high)
+
+mul-t9 : tie.Need-mul-t9
+mul-t9 c = search needs
 
 total-of-requires : tie.Need-total-of-requires
-total-of-requires c κs = search needs
+total-of-requires c κs =
+    let k = c .before .before .before .before .before .before .before in
+    (known k .0, known k .1, k .before .before .pre .1 .total-high)
 
 arbitrary-of-requires : tie.Need-arbitrary-of-requires
-arbitrary-of-requires c κs = search needs
+arbitrary-of-requires c κs =
+    let k = c .before .before .before .before .before .before .before .before in
+    (known k .0, known k .1, k .before .before .pre .1 .arbitrary-high)
 
 returns : tie.Need-returns
 unfolding report
@@ -44,8 +67,9 @@ returns c =
     let o = v .before in
     let e = o .before in
     let r = e .before .before in
-    let s = r .before .before in
+    let s = r .before .before .before .before in
     let f = s .args .f in
+    let h = s .pre .1 in
     simp (
       r .round-div .ensures,
       o .at-least-one .ensures,
@@ -53,19 +77,21 @@ returns c =
       v .intra-of .ensures,
       t .total-of .ensures,
       c .arbitrary-of .ensures,
-      toZ-ofZ (ln-fits (f .ln) (s .pre .0 .ln-low) (s .pre .0 .ln-high)),
-      toZ-ofZ (nearest-fits (f .ln) (s .pre .0 .ln-low) (s .pre .0 .ln-high)),
+      toZ-ofZ (ln-fits (f .ln) (h .ln-low) (h .ln-high)),
+      toZ-ofZ (nearest-fits (f .ln) (h .ln-low) (h .ln-high)),
     )
 
 pub report-of-spec : {M : Type 1} → statement M
 report-of-spec =
     tie.close
     (tie.spec
+    deviations-at-requires
+    settled-at-requires
     round-div-requires
     exp-fixed-requires
     at-least-one-requires
     intra-of-requires
-    mul-t8
+    mul-t9
     total-of-requires
     arbitrary-of-requires
     returns)
