@@ -82,7 +82,7 @@ fn own_from(m: Measure, x: Scenario, f: Factors, path: Path, soil: Soil) -> Fine
     Fine {
         ln: l,
         intra: intra,
-        t: d.t,
+        t: d.t as u64,
         total: total,
         arbitrary: arbitrary,
     }

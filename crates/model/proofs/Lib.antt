@@ -6,6 +6,7 @@ pub mod Basin
 pub mod Between
 pub mod Curve
 pub mod Fair
+pub mod Cells
 pub mod TermsNear
 pub mod Ends
 pub mod Rock

@@ -26,21 +26,21 @@ const ROCK: i64 = 372_134_384;
 // of 10^-9, and on a linear site, where s² is the intra-event variance, the total sigma (16) and that of an
 // arbitrary component (18).
 pub struct Settled {
-    pub cross: u64,
-    pub total: u64,
-    pub arbitrary: u64,
+    pub cross: u32,
+    pub total: u32,
+    pub arbitrary: u32,
 }
 
 // A deviation of Table 3 squared, in units of 10^-9.
-pub fn squared(n: u64) -> u64
+pub fn squared(n: u16) -> u64
     requires { ⌜ n ≤ 1000 ⌝ }
     ensures { λ r. ⌜ r ≡ squaredFixed n ⌝ }
 {
-    n * n * 1_000
+    n as u64 * n as u64 * 1_000
 }
 
 // The intra-event variance (15). On a linear site alpha is 0 and nothing is added to s².
-pub fn intra_variance(d: Deviations, cross: u64, alpha: i64) -> u64
+pub fn intra_variance(d: Deviations, cross: u32, alpha: i64) -> u64
     requires { ⌜ OfTable3 d × (cross ≡ crossFixed d) × (natAbs alpha ≤ 2671000367) ⌝ }
     ensures { λ r. ⌜ r ≡ up (intraVarianceFixed d alpha) ⌝ }
 {
@@ -77,7 +77,7 @@ pub fn intra_of(d: Deviations, v: u64) -> u64
     requires { ⌜ OfTable3 d × (v ≤ 2400000000) ⌝ }
     ensures { λ r. ⌜ r ≡ sigmaOf v ⌝ }
 {
-    sigma_or(v, squared(d.s), d.s * 1_000)
+    sigma_or(v, squared(d.s), d.s as u64 * 1_000)
 }
 
 // The total sigma (16), known where its variance is a linear site's.
@@ -85,7 +85,7 @@ pub fn total_of(d: Deviations, f: Settled, v: u64) -> u64
     requires { ⌜ OfTable3 d × (f ≡ settledOf d) × (v ≤ 2400000000) ⌝ }
     ensures { λ r. ⌜ r ≡ sigmaOf v ⌝ }
 {
-    sigma_or(v, squared(d.s) + squared(d.t), f.total)
+    sigma_or(v, squared(d.s) + squared(d.t), f.total as u64)
 }
 
 // The arbitrary component's (18), likewise.
@@ -93,5 +93,9 @@ pub fn arbitrary_of(d: Deviations, f: Settled, v: u64) -> u64
     requires { ⌜ OfTable3 d × (f ≡ settledOf d) × (v ≤ 2400000000) ⌝ }
     ensures { λ r. ⌜ r ≡ sigmaOf v ⌝ }
 {
-    sigma_or(v, squared(d.s) + squared(d.t) + squared(d.sC), f.arbitrary)
+    sigma_or(
+        v,
+        squared(d.s) + squared(d.t) + squared(d.sC),
+        f.arbitrary as u64,
+    )
 }

@@ -29,7 +29,7 @@ const N: i64 = 118;
 // What the measures of one k1 see of the soil: ln(V/k1), and below k1 by how much the logarithm and
 // the share of A1100 differ from those on rock.
 pub struct Soil {
-    pub k1: u64,
+    pub k1: u16,
     pub ratio: i64,
     pub gain: i64,
     pub swing: i64,
@@ -55,8 +55,9 @@ pub fn soil_of(c: Coefficients, x: Scenario, rock: Rock) -> Soil
     requires { ⌜ OfTable2 c × InRange x × (rock ≡ rockOf x) ⌝ }
     ensures { λ r. ⌜ r ≡ soilOf (c .k1) x ⌝ }
 {
-    if x.vs30 < c.k1 {
-        let ratio = ln_quotient(x.vs30, c.k1);
+    let k1 = c.k1 as u64;
+    if x.vs30 < k1 {
+        let ratio = ln_quotient(x.vs30, k1);
         let curve = curve_of(ratio);
         let gain = ln_fixed(rock.pga + curve) - rock.log;
         let swing = share_of(rock.pga, curve) as i64 - rock.share as i64;
@@ -69,7 +70,7 @@ pub fn soil_of(c: Coefficients, x: Scenario, rock: Rock) -> Soil
     }
     Soil {
         k1: c.k1,
-        ratio: ln_quotient(at_most_1100(x.vs30), c.k1),
+        ratio: ln_quotient(at_most_1100(x.vs30), k1),
         gain: 0,
         swing: 0,
     }
@@ -80,7 +81,7 @@ fn linear_of(c: Coefficients) -> i64
     requires { ⌜ OfTable2 c ⌝ }
     ensures { λ r. ⌜ r ≡ linear c ⌝ }
 {
-    100 * c.c10 + N * c.k2
+    100 * c.c10 as i64 + N * c.k2 as i64
 }
 
 // The term at a Vs30 from k1 up, which reads no A1100.
@@ -88,7 +89,11 @@ pub fn f_site_linear(c: Coefficients, v: u64) -> i64
     requires { ⌜ OfTable2 c × (c .k1 ≤ v) × (v ≤ 1500) ⌝ }
     ensures { λ r. ⌜ r ≡ fSiteFixed c v 0 ⌝ }
 {
-    mul_div(linear_of(c), ln_quotient(at_most_1100(v), c.k1), 100_000)
+    mul_div(
+        linear_of(c),
+        ln_quotient(at_most_1100(v), c.k1 as u64),
+        100_000,
+    )
 }
 
 // The term at the site (11).
@@ -96,8 +101,8 @@ pub fn f_site(c: Coefficients, x: Scenario, soil: Soil) -> i64
     requires { ⌜ OfTable2 c × InRange x × (soil ≡ soilOf (c .k1) x) ⌝ }
     ensures { λ r. ⌜ r ≡ fSiteFixed c (x .vs30) (rockPGAFixed x) ⌝ }
 {
-    if x.vs30 < soil.k1 {
-        return mul_div(c.c10, soil.ratio, 1_000) + mul_div(c.k2, soil.gain, 1_000);
+    if x.vs30 < soil.k1 as u64 {
+        return mul_div(c.c10 as i64, soil.ratio, 1_000) + mul_div(c.k2 as i64, soil.gain, 1_000);
     }
     mul_div(linear_of(c), soil.ratio, 100_000)
 }
@@ -107,5 +112,5 @@ pub fn alpha_of(c: Coefficients, x: Scenario, soil: Soil) -> i64
     requires { ⌜ OfTable2 c × InRange x × (soil ≡ soilOf (c .k1) x) ⌝ }
     ensures { λ r. ⌜ r ≡ alphaFixed c (x .vs30) (rockPGAFixed x) ⌝ }
 {
-    mul_div(c.k2, soil.swing, 1_000)
+    mul_div(c.k2 as i64, soil.swing, 1_000)
 }

@@ -20,31 +20,31 @@ pub const PGA: usize = 21;
 
 // A row of Table 2, each field under the paper's name.
 pub struct Coefficients {
-    pub c0: i64,
-    pub c1: i64,
-    pub c2: i64,
-    pub c3: i64,
-    pub c4: i64,
-    pub c5: i64,
-    pub c6: u64,
-    pub c7: i64,
-    pub c8: i64,
-    pub c9: i64,
-    pub c10: i64,
-    pub c11: i64,
-    pub c12: i64,
-    pub k1: u64,
-    pub k2: i64,
-    pub k3: i64,
+    pub c0: i16,
+    pub c1: i16,
+    pub c2: i16,
+    pub c3: i16,
+    pub c4: i16,
+    pub c5: i16,
+    pub c6: u16,
+    pub c7: i16,
+    pub c8: i16,
+    pub c9: i16,
+    pub c10: i16,
+    pub c11: i16,
+    pub c12: i16,
+    pub k1: u16,
+    pub k2: i16,
+    pub k3: i16,
 }
 
 // A row of Table 3: the intra-event, inter-event and component deviations, the total and the
 // arbitrary component's of a site with a linear response, and the correlation with PGA.
 pub struct Deviations {
-    pub s: u64,
-    pub t: u64,
-    pub sC: u64,
-    pub sT: u64,
-    pub sArb: u64,
-    pub rho: u64,
+    pub s: u16,
+    pub t: u16,
+    pub sC: u16,
+    pub sT: u16,
+    pub sArb: u16,
+    pub rho: u16,
 }

@@ -18,7 +18,7 @@ ghost use Rattle.terms.specs.Paths.{pathOf};
 
 // The logarithm of RRUP² + c6², for the measures of one c6.
 pub struct Path {
-    pub c6: u64,
+    pub c6: u16,
     pub ln: i64,
 }
 
@@ -27,7 +27,8 @@ pub fn path_of(c: Coefficients, x: Scenario) -> Path
     requires { ⌜ OfTable2 c × InRange x ⌝ }
     ensures { λ r. ⌜ r ≡ pathOf (c .c6) x ⌝ }
 {
-    let square = x.rrup * x.rrup + c.c6 * c.c6;
+    let near = c.c6 as u64;
+    let square = x.rrup * x.rrup + near * near;
     Path {
         c6: c.c6,
         ln: ln_fixed(1_000 * square),
@@ -50,7 +51,10 @@ fn f_mag(c: Coefficients, m: u64) -> i64
     requires { ⌜ OfTable2 c × (m ≤ 850) ⌝ }
     ensures { λ r. ⌜ r ≡ fMagFixed c m ⌝ }
 {
-    let sum = 100 * c.c0 + c.c1 * m as i64 + c.c2 * above(m, 550) + c.c3 * above(m, 650);
+    let sum = 100 * c.c0 as i64
+        + c.c1 as i64 * m as i64
+        + c.c2 as i64 * above(m, 550)
+        + c.c3 as i64 * above(m, 650);
     sum * 10_000
 }
 
@@ -59,7 +63,7 @@ fn f_dis(c: Coefficients, x: Scenario, path: Path) -> i64
     requires { ⌜ OfTable2 c × InRange x × (path ≡ pathOf (c .c6) x) ⌝ }
     ensures { λ r. ⌜ r ≡ fDisFixed c (x .m) (x .rrup) ⌝ }
 {
-    let slope = 100 * c.c4 + c.c5 * x.m as i64;
+    let slope = 100 * c.c4 as i64 + c.c5 as i64 * x.m as i64;
     mul_div(slope, path.ln, 200_000)
 }
 
@@ -77,8 +81,8 @@ fn f_flt(c: Coefficients, style: Style, ztor: u64) -> i64
 {
     match style {
         Style::StrikeSlip => 0,
-        Style::Reverse => c.c7 * f_flt_z(ztor) as i64 * 1_000,
-        Style::Normal => c.c8 * 1_000_000,
+        Style::Reverse => c.c7 as i64 * f_flt_z(ztor) as i64 * 1_000,
+        Style::Normal => c.c8 as i64 * 1_000_000,
     }
 }
 
@@ -87,7 +91,7 @@ fn f_hng(c: Coefficients, x: Scenario, wall: u64) -> i64
     requires { ⌜ OfTable2 c × (wall ≡ wallFixed x) ⌝ }
     ensures { λ r. ⌜ r ≡ fHngFixed c x ⌝ }
 {
-    mul_div(c.c9, wall as i64, 1_000)
+    mul_div(c.c9 as i64, wall as i64, 1_000)
 }
 
 // The basin (12), from its factor below 3 km.
@@ -96,12 +100,12 @@ fn f_sed(c: Coefficients, z: u64, deep: u64) -> i64
     ensures { λ r. ⌜ r ≡ fSedFixed c z ⌝ }
 {
     if z < 1_000 {
-        return c.c11 * (z as i64 - 1_000) * 1_000;
+        return c.c11 as i64 * (z as i64 - 1_000) * 1_000;
     }
     if z <= 3_000 {
         return 0;
     }
-    mul_div(c.c12 * c.k3, deep as i64, 1_000_000)
+    mul_div(c.c12 as i64 * c.k3 as i64, deep as i64, 1_000_000)
 }
 
 // ln Y (1), the site term known.

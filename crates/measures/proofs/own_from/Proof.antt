@@ -126,14 +126,18 @@ add-arbitrary c =
     let f = at (start (v .before)) in
     record { fits = omega (arith, sC2-is c, t2-is t, intra-is v, f .t2, f .sC2, f .variance-high) }
 
+cast-t14 : tie.Need-cast-t14
+cast-t14 c = search needs
+
 returns : tie.Need-returns
 unfolding ownFixed
 returns c =
-    let t = c .before in
+    let q = c .before in
+    let t = q .before in
     let v = t .before in
     let s = start (v .before) in
     let l = v .before .before .before .before .before in
-    simp (l .ln-own .ensures, toZ-ofZ (at s .ln-fits), intra-is v, t2-is t, sC2-is c, t-is s)
+    simp (l .ln-own .ensures, toZ-ofZ (at s .ln-fits), intra-is v, t2-is t, sC2-is q, t-is s)
 
 pub own-from-spec : {M : Type 1} → statement M
 own-from-spec =
@@ -146,4 +150,5 @@ own-from-spec =
     add-total
     squared-requires-2
     add-arbitrary
+    cast-t14
     returns)

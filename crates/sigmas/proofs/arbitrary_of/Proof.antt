@@ -41,6 +41,9 @@ add-sigma-or-2 c =
     let s = t .before .before in
     record { fits = omega (arith, c .squared3 .ensures, t .squared2 .ensures, t .before .squared .ensures, squares s) }
 
+cast-sigma-or : tie.Need-cast-sigma-or
+cast-sigma-or c = search needs
+
 known : (c : tie.Start) → c .args .f .arbitrary ≡ linearArbitrary (c .args .d)
 unfolding settledOf
 known c = ap (λ (f : Settled). f .arbitrary) (c .pre .1)
@@ -48,9 +51,10 @@ known c = ap (λ (f : Settled). f .arbitrary) (c .pre .1)
 sigma-or-requires : tie.Need-sigma-or-requires
 unfolding linearArbitrary
 sigma-or-requires c κs =
-    let t = c .before in
+    let q = c .before in
+    let t = q .before in
     let s = t .before .before in
-    (rw (c .squared3 .ensures, t .squared2 .ensures, t .before .squared .ensures) (known s), s .pre .2)
+    (rw (q .squared3 .ensures, t .squared2 .ensures, t .before .squared .ensures) (known s), s .pre .2)
 
 returns : tie.Need-returns
 returns c = search needs
@@ -58,4 +62,4 @@ returns c = search needs
 pub arbitrary-of-spec : {M : Type 1} → statement M
 arbitrary-of-spec =
     tie.close
-    (tie.spec squared-requires squared-requires-2 add-sigma-or squared-requires-3 add-sigma-or-2 sigma-or-requires returns)
+    (tie.spec squared-requires squared-requires-2 add-sigma-or squared-requires-3 add-sigma-or-2 cast-sigma-or sigma-or-requires returns)

@@ -14,6 +14,9 @@ small c = spread-of (c .args .d) (c .pre .0)
 squared-requires : tie.Need-squared-requires
 squared-requires c κs = omega (arith, small c)
 
+cast-sigma-or : tie.Need-cast-sigma-or
+cast-sigma-or c = search needs
+
 mul-sigma-or : tie.Need-mul-sigma-or
 mul-sigma-or c = record { fits = omega (arith, small (c .before .before)) }
 
@@ -27,4 +30,4 @@ returns : tie.Need-returns
 returns c = search needs
 
 pub intra-of-spec : {M : Type 1} → statement M
-intra-of-spec = tie.close (tie.spec squared-requires mul-sigma-or sigma-or-requires returns)
+intra-of-spec = tie.close (tie.spec squared-requires cast-sigma-or mul-sigma-or sigma-or-requires returns)

@@ -30,6 +30,9 @@ add-sigma-or c =
     let s = c .before .before in
     record { fits = omega (arith, c .squared2 .ensures, c .before .squared .ensures, squares s) }
 
+cast-sigma-or : tie.Need-cast-sigma-or
+cast-sigma-or c = search needs
+
 known : (c : tie.Start) → c .args .f .total ≡ linearTotal (c .args .d)
 unfolding settledOf
 known c = ap (λ (f : Settled). f .total) (c .pre .1)
@@ -37,11 +40,12 @@ known c = ap (λ (f : Settled). f .total) (c .pre .1)
 sigma-or-requires : tie.Need-sigma-or-requires
 unfolding linearTotal
 sigma-or-requires c κs =
-    let s = c .before .before in
-    (rw (c .squared2 .ensures, c .before .squared .ensures) (known s), s .pre .2)
+    let t = c .before in
+    let s = t .before .before in
+    (rw (t .squared2 .ensures, t .before .squared .ensures) (known s), s .pre .2)
 
 returns : tie.Need-returns
 returns c = search needs
 
 pub total-of-spec : {M : Type 1} → statement M
-total-of-spec = tie.close (tie.spec squared-requires squared-requires-2 add-sigma-or sigma-or-requires returns)
+total-of-spec = tie.close (tie.spec squared-requires squared-requires-2 add-sigma-or cast-sigma-or sigma-or-requires returns)

@@ -20,13 +20,14 @@ use Rattle.model.specs.Fixed.{alphaFixed, rockPGAFixed}
 use Rattle.tables.specs.OfTables.{OfTable2}
 use Rattle.site.specs.Sharing.{soilOf}
 use Rattle.model.proofs.Fair.{fair-of}
+use Rattle.model.proofs.Cells.{Cells, cells}
 use Rattle.model.proofs.Sizes.{share-size}
 use Rattle.site.proofs.SoilLaws.{soil-by, soil-small}
 use Rattle.site.proofs.alpha_of.Statement.{statement}
 use Rattle.site.proofs.alpha_of.Tie as tie
 
 record Steps (c : Coefficients) (z : ℤ) : Type 0 where
-  k2-fits : SFits w64 (c .k2)
+  cells : Cells c
   z-fits : SFits w64 z
   product : natAbs (c .k2) * natAbs z < 2 ^ 63
   whole : SFits w64 (mulDiv (c .k2) z (pos 1000))
@@ -38,7 +39,7 @@ steps c x o r =
     let z : ℤ = soilOf (c .k1) x .swing in
     let s = soil-small c x o r .swing-small in
     record {
-      k2-fits = sfits-abs (c .k2) (omega (arith, k));
+      cells = cells c o;
       z-fits = sfits-abs z (omega (arith, s));
       product = omega (arith, mul-le-mul k s);
       whole = sfits-abs (mulDiv (c .k2) z (pos 1000)) (omega (arith, share-size (c .k2) z 1000 2670 1000000000 2670000000 k s (lit≤ tt)));
@@ -50,11 +51,14 @@ at c = steps (c .args .c) (c .args .x) (c .pre .0) (c .pre .1)
 swing-is : (c : tie.Start) → c .args .soil .swing ≡ soilOf (c .args .c .k1) (c .args .x) .swing
 swing-is c = ap (λ (s : Soil). s .swing) (c .pre .2)
 
+cast-mul-div : tie.Need-cast-mul-div
+cast-mul-div c = at (c .before .before) .cells .k2 .cast
+
 mul-div-requires : tie.Need-mul-div-requires
 mul-div-requires c κs =
-    let s = c .before .before in
+    let s = c .before .before .before in
     let f = at s in
-    simp (swing-is s, toZ-ofZ (f .k2-fits), toZ-ofZ (f .z-fits)) (f .product, lit≤ tt)
+    simp (swing-is s, f .cells .k2 .back, toZ-ofZ (f .z-fits)) (f .product, lit≤ tt)
 
 alpha-is : (c : Coefficients) (x : Scenario) → mulDiv (c .k2) (soilOf (c .k1) x .swing) (pos 1000) ≡ alphaFixed c (x .vs30) (rockPGAFixed x)
 unfolding alphaFixed
@@ -65,10 +69,10 @@ alpha-is c x =
 
 returns : tie.Need-returns
 returns c =
-    let s = c .before .before .before in
+    let s = c .before .before .before .before in
     let f = at s in
-    simp (c .mul-div .ensures, swing-is s, toZ-ofZ (f .k2-fits), toZ-ofZ (f .z-fits), toZ-ofZ (f .whole))
+    simp (c .mul-div .ensures, swing-is s, f .cells .k2 .back, toZ-ofZ (f .z-fits), toZ-ofZ (f .whole))
     (alpha-is (s .args .c) (s .args .x))
 
 pub alpha-of-spec : {M : Type 1} → statement M
-alpha-of-spec = tie.close (tie.spec mul-div-requires returns)
+alpha-of-spec = tie.close (tie.spec cast-mul-div mul-div-requires returns)

@@ -21,6 +21,7 @@ use Rattle.model.specs.Fixed.{fSiteFixed, rockPGAFixed}
 use Rattle.tables.specs.OfTables.{OfTable2}
 use Rattle.site.specs.Sharing.{soilOf}
 use Rattle.model.proofs.Fair.{fair-of}
+use Rattle.model.proofs.Cells.{Cells, cells}
 use Rattle.model.proofs.Sizes.{share-size}
 use Rattle.site.proofs.SoilLaws.{soft-soil, hard-soil, soil-k1, soil-small}
 use Rattle.site.proofs.f_site.Statement.{statement}
@@ -28,8 +29,7 @@ use Rattle.site.proofs.f_site.Tie as tie
 
 -- the products with a soil's numbers
 record Steps (c : Coefficients) (s : Soil) : Type 0 where
-  c10-fits : SFits w64 (c .c10)
-  k2-fits : SFits w64 (c .k2)
+  cells : Cells c
   linear-fits : SFits w64 (linear c)
   ratio-fits : SFits w64 (s .ratio)
   gain-fits : SFits w64 (s .gain)
@@ -52,8 +52,7 @@ steps c x o r =
     let ha = share-size (c .c10) (s .ratio) 1000 2600 2000000005 5200000013 (f .c10-small) (z .ratio-small) (lit≤ tt) in
     let hb = share-size (c .k2) (s .gain) 1000 2670 2930000123 7823100329 k (z .gain-small) (lit≤ tt) in
     record {
-      c10-fits = sfits-abs (c .c10) (omega (arith, f .c10-small));
-      k2-fits = sfits-abs (c .k2) (omega (arith, k));
+      cells = cells c o;
       linear-fits = sfits-abs (linear c) (omega (arith, f .linear-small));
       ratio-fits = sfits-abs (s .ratio) (omega (arith, z .ratio-small));
       gain-fits = sfits-abs (s .gain) (omega (arith, z .gain-small));
@@ -83,31 +82,40 @@ gain-is c = ap (λ (s : Soil). s .gain) (c .pre .2)
 k1-is : (c : tie.Start) → c .args .soil .k1 ≡ c .args .c .k1
 k1-is c = ap (λ (s : Soil). s .k1) (c .pre .2) ∙ soil-k1 (c .args .c .k1) (c .args .x)
 
+cast-if1 : tie.Need-cast-if1
+cast-if1 c = search needs
+
+cast-mul-div : tie.Need-cast-mul-div
+cast-mul-div c = at (c .before .before .before .before .before) .cells .c10 .cast
+
 mul-div-requires : tie.Need-mul-div-requires
 mul-div-requires c κs =
-    let s = c .before .before .before .before .before in
+    let s = c .before .before .before .before .before .before in
     let f = at s in
-    simp (ratio-is s, toZ-ofZ (f .c10-fits), toZ-ofZ (f .ratio-fits)) (f .by-c10, lit≤ tt)
+    simp (ratio-is s, f .cells .c10 .back, toZ-ofZ (f .ratio-fits)) (f .by-c10, lit≤ tt)
+
+cast-mul-div-2 : tie.Need-cast-mul-div-2
+cast-mul-div-2 c = at (c .before .before .before .before .before .before .before .before .before) .cells .k2 .cast
 
 mul-div-requires-2 : tie.Need-mul-div-requires-2
 mul-div-requires-2 c κs =
-    let s = c .before .before .before .before .before .before .before .before in
+    let s = c .before .before .before .before .before .before .before .before .before .before in
     let f = at s in
-    simp (gain-is s, toZ-ofZ (f .k2-fits), toZ-ofZ (f .gain-fits)) (f .by-k2, lit≤ tt)
+    simp (gain-is s, f .cells .k2 .back, toZ-ofZ (f .gain-fits)) (f .by-k2, lit≤ tt)
 
 add-result : tie.Need-add-result
 add-result c =
-    let d = c .before .before .before in
-    let s = d .before .before .before .before .before .before in
+    let d = c .before .before .before .before in
+    let s = d .before .before .before .before .before .before .before in
     let f = at s in
     simp (
       d .mul-div .ensures,
       c .mul-div2 .ensures,
       ratio-is s,
       gain-is s,
-      toZ-ofZ (f .c10-fits),
+      f .cells .c10 .back,
       toZ-ofZ (f .ratio-fits),
-      toZ-ofZ (f .k2-fits),
+      f .cells .k2 .back,
       toZ-ofZ (f .gain-fits),
       toZ-ofZ (f .p),
       toZ-ofZ (f .q),
@@ -129,8 +137,8 @@ hard-is c x h = rw (hard-soil (c .k1) x h, fSiteFixed, le-ltb (x .vs30) (c .k1) 
 
 returns : tie.Need-returns
 returns c =
-    let d = c .before .before .before in
-    let t = d .before .before .before in
+    let d = c .before .before .before .before in
+    let t = d .before .before .before .before in
     let s = t .before .before .before in
     let f = at s in
     simp (
@@ -138,9 +146,9 @@ returns c =
       c .mul-div2 .ensures,
       ratio-is s,
       gain-is s,
-      toZ-ofZ (f .c10-fits),
+      f .cells .c10 .back,
       toZ-ofZ (f .ratio-fits),
-      toZ-ofZ (f .k2-fits),
+      f .cells .k2 .back,
       toZ-ofZ (f .gain-fits),
       toZ-ofZ (f .p),
       toZ-ofZ (f .q),
@@ -171,7 +179,10 @@ pub f-site-spec : {M : Type 1} → statement M
 f-site-spec =
     tie.close
     (tie.spec
+    cast-if1
+    cast-mul-div
     mul-div-requires
+    cast-mul-div-2
     mul-div-requires-2
     add-result
     returns

@@ -55,15 +55,19 @@ linear-of-requires c κs = search needs
 at-most-1100-requires : tie.Need-at-most-1100-requires
 at-most-1100-requires c κs = search needs
 
+cast-ln-quotient : tie.Need-cast-ln-quotient
+cast-ln-quotient c = search needs
+
 ln-quotient-requires : tie.Need-ln-quotient-requires
 ln-quotient-requires c κs =
-    let p = at (c .before .before) .paired in
-    rw (c .at-most-1100 .ensures)
+    let m = c .before in
+    let p = at (m .before .before) .paired in
+    rw (m .at-most-1100 .ensures)
     (omega (arith, p .k-low), omega (arith, p .k-high), omega (arith, p .k-high, p .v-low), omega (arith, p .v-high, p .k-low))
 
 mul-div-requires : tie.Need-mul-div-requires
 mul-div-requires c κs =
-    let m = c .before in
+    let m = c .before .before in
     let f = at (m .before .before) in
     simp
     (m .before .linear-of .ensures, c .ln-quotient .ensures, m .at-most-1100 .ensures, toZ-ofZ (f .linear-fits), toZ-ofZ (f .ln-fits))
@@ -73,7 +77,7 @@ returns : tie.Need-returns
 unfolding fSiteFixed
 returns c =
     let q = c .before in
-    let m = q .before in
+    let m = q .before .before in
     let s = m .before .before in
     let f = at s in
     rw (fSiteFixed, le-ltb (s .args .v) (s .args .c .k1) (s .pre .1))
@@ -88,4 +92,4 @@ returns c =
     ))
 
 pub f-site-linear-spec : {M : Type 1} → statement M
-f-site-linear-spec = tie.close (tie.spec linear-of-requires at-most-1100-requires ln-quotient-requires mul-div-requires returns)
+f-site-linear-spec = tie.close (tie.spec linear-of-requires at-most-1100-requires cast-ln-quotient ln-quotient-requires mul-div-requires returns)

@@ -93,6 +93,9 @@ share-is : (c : tie.Start) → c .args .rock .share ≡ shareFixed (rockPGAFixed
 unfolding rockOf
 share-is c = ap (λ (s : Rock). s .share) (c .pre .2)
 
+cast-k1 : tie.Need-cast-k1
+cast-k1 c = search needs
+
 ln-quotient-requires : tie.Need-ln-quotient-requires
 ln-quotient-requires c κs =
     let f = soft-at c in
@@ -233,6 +236,7 @@ pub soil-of-spec : {M : Type 1} → statement M
 soil-of-spec =
     tie.close
     (tie.spec
+    cast-k1
     ln-quotient-requires
     curve-of-requires
     add-ln-fixed

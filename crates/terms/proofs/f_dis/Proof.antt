@@ -19,6 +19,7 @@ use Rattle.model.specs.Fixed.{lnDistance, fDisFixed}
 use Rattle.tables.specs.OfTables.{OfTable2}
 use Rattle.terms.specs.Paths.{pathOf}
 use Rattle.model.proofs.Fair.{fair-of}
+use Rattle.model.proofs.Cells.{Cells, cells}
 use Rattle.model.proofs.Sizes.{lnDistance-size, fDis-size}
 use Rattle.model.proofs.TermsNear.{slope-size}
 use Rattle.terms.proofs.f_dis.Statement.{statement}
@@ -26,8 +27,7 @@ use Rattle.terms.proofs.f_dis.Tie as tie
 
 record Steps (c : Coefficients) (x : Scenario) : Type 0 where
   bits : toZ w64 (x .m) ≡ pos (x .m)
-  c4-fits : SFits w64 (c .c4)
-  c5-fits : SFits w64 (c .c5)
+  cells : Cells c
   p4 : SFits w64 (pos 100 *ℤ c .c4)
   p5 : SFits w64 (c .c5 *ℤ pos (x .m))
   sum : SFits w64 (slope c (x .m))
@@ -47,8 +47,7 @@ steps c x o r =
     omega (arith, abs-parts (c .c4), abs-parts (c .c5), f .c4-sign, f .c5-sign, f .slope-low, f .slope-high) in
     record {
       bits = toZ-pos w64 (omega (arith, r .m-high));
-      c4-fits = sfits-abs (c .c4) (omega (arith, small4));
-      c5-fits = sfits-abs (c .c5) (omega (arith, small5));
+      cells = cells c o;
       p4 = sfits-abs (pos 100 *ℤ c .c4) (omega (arith, small4, mul-abs (pos 100) (c .c4)));
       p5 = sfits-abs (c .c5 *ℤ pos (x .m)) (omega (arith, mul-abs-le (c .c5) (pos (x .m)) small5 (r .m-high)));
       sum = sfits-abs (slope c (x .m)) (omega (arith, s));
@@ -64,26 +63,32 @@ path-ln : (c : tie.Start) → c .args .path .ln ≡ lnDistance (c .args .c .c6) 
 unfolding pathOf
 path-ln c = ap (λ (p : Path). p .ln) (c .pre .2)
 
-mul-slope : tie.Need-mul-slope
-mul-slope c = let f = at (c .before .before) in simp (toZ-ofZ (f .c4-fits)) (f .p4)
-
 cast-slope : tie.Need-cast-slope
-cast-slope c = search needs
+cast-slope c = at (c .before .before) .cells .c4 .cast
+
+mul-slope : tie.Need-mul-slope
+mul-slope c = let f = at (c .before .before) in simp (f .cells .c4 .back) (f .p4)
+
+cast-slope-2 : tie.Need-cast-slope-2
+cast-slope-2 c = at (c .before .before .before .before) .cells .c5 .cast
+
+cast-slope-3 : tie.Need-cast-slope-3
+cast-slope-3 c = search needs
 
 mul-slope-2 : tie.Need-mul-slope-2
-mul-slope-2 c = let f = at (c .before .before .before .before .before) in simp (toZ-ofZ (f .c5-fits), f .bits) (f .p5)
+mul-slope-2 c = let f = at (c .before .before .before .before .before) in simp (f .cells .c5 .back, f .bits) (f .p5)
 
 add-slope : tie.Need-add-slope
 add-slope c =
     let f = at (c .before .before .before .before .before) in
-    simp (toZ-ofZ (f .c4-fits), toZ-ofZ (f .c5-fits), f .bits, toZ-ofZ (f .p4), toZ-ofZ (f .p5)) (f .sum)
+    simp (f .cells .c4 .back, f .cells .c5 .back, f .bits, toZ-ofZ (f .p4), toZ-ofZ (f .p5)) (f .sum)
 
 mul-div-requires : tie.Need-mul-div-requires
 mul-div-requires c κs =
     let s = c .before .before .before .before .before .before in
     let f = at s in
     simp
-    (path-ln s, toZ-ofZ (f .c4-fits), toZ-ofZ (f .c5-fits), f .bits, toZ-ofZ (f .p4), toZ-ofZ (f .p5), toZ-ofZ (f .sum), toZ-ofZ (f .ln-fits))
+    (path-ln s, f .cells .c4 .back, f .cells .c5 .back, f .bits, toZ-ofZ (f .p4), toZ-ofZ (f .p5), toZ-ofZ (f .sum), toZ-ofZ (f .ln-fits))
     (f .product, lit≤ tt)
 
 returns : tie.Need-returns
@@ -94,8 +99,8 @@ returns c =
     simp (
       c .mul-div .ensures,
       path-ln s,
-      toZ-ofZ (f .c4-fits),
-      toZ-ofZ (f .c5-fits),
+      f .cells .c4 .back,
+      f .cells .c5 .back,
       f .bits,
       toZ-ofZ (f .p4),
       toZ-ofZ (f .p5),
@@ -105,4 +110,4 @@ returns c =
     )
 
 pub f-dis-spec : {M : Type 1} → statement M
-f-dis-spec = tie.close (tie.spec mul-slope cast-slope mul-slope-2 add-slope mul-div-requires returns)
+f-dis-spec = tie.close (tie.spec cast-slope mul-slope cast-slope-2 cast-slope-3 mul-slope-2 add-slope mul-div-requires returns)

@@ -14,6 +14,7 @@ use Rattle.tables.specs.OfTables.{OfTable2}
 use Rattle.model.specs.Fixed.{fMagFixed}
 use Rattle.model.specs.Equations.{byMagnitude}
 use Rattle.model.proofs.Fair.{fair-of}
+use Rattle.model.proofs.Cells.{Cells, cells}
 use Rattle.model.proofs.Sizes.{fMag-size, byMagnitude-size}
 use Rattle.terms.proofs.f_mag.Statement.{statement}
 use Rattle.terms.proofs.f_mag.Tie as tie
@@ -22,10 +23,7 @@ use Rattle.terms.proofs.f_mag.Tie as tie
 record Steps (c : Coefficients) (m : ℕ) : Type 0 where
   bits : toZ w64 m ≡ pos m
   above : (e : ℕ) → SFits w64 (pos (m - e))
-  c0-fits : SFits w64 (c .c0)
-  c1-fits : SFits w64 (c .c1)
-  c2-fits : SFits w64 (c .c2)
-  c3-fits : SFits w64 (c .c3)
+  cells : Cells c
   p0 : SFits w64 (pos 100 *ℤ c .c0)
   p1 : SFits w64 (c .c1 *ℤ pos m)
   s1 : SFits w64 (pos 100 *ℤ c .c0 +ℤ c .c1 *ℤ pos m)
@@ -51,10 +49,7 @@ steps c m o h =
     record {
       bits = toZ-pos w64 (omega arith);
       above = λ e. sfits-abs (pos (m - e)) (omega arith);
-      c0-fits = sfits-abs (c .c0) (omega (arith, f .magnitude-small));
-      c1-fits = sfits-abs (c .c1) (omega (arith, f .magnitude-small));
-      c2-fits = sfits-abs (c .c2) (omega (arith, f .magnitude-small));
-      c3-fits = sfits-abs (c .c3) (omega (arith, f .magnitude-small));
+      cells = cells c o;
       p0 = sfits-abs a (omega (arith, f .magnitude-small, a-is));
       p1 = sfits-abs b (omega (arith, f .magnitude-small, b-is));
       s1 = sfits-abs (a +ℤ b) (omega (arith, f .magnitude-small, a-is, b-is, add-abs a b));
@@ -68,76 +63,87 @@ steps c m o h =
 at : (c : tie.Start) → Steps (c .args .c) (c .args .m)
 at c = steps (c .args .c) (c .args .m) (c .pre .0) (c .pre .1)
 
-mul-sum : tie.Need-mul-sum
-mul-sum c = let f = at (c .before .before) in simp (toZ-ofZ (f .c0-fits)) (f .p0)
+abbrev start : (c : tie.After-above) → Steps ((c .before .before .before .before .before .before .before) .args .c) ((c .before .before .before .before .before .before .before) .args .m)
+start c = at (c .before .before .before .before .before .before .before)
 
 cast-sum : tie.Need-cast-sum
-cast-sum c = search needs
+cast-sum c = at (c .before .before) .cells .c0 .cast
+
+mul-sum : tie.Need-mul-sum
+mul-sum c = let f = at (c .before .before) in simp (f .cells .c0 .back) (f .p0)
+
+cast-sum-2 : tie.Need-cast-sum-2
+cast-sum-2 c = at (c .before .before .before .before) .cells .c1 .cast
+
+cast-sum-3 : tie.Need-cast-sum-3
+cast-sum-3 c = search needs
 
 mul-sum-2 : tie.Need-mul-sum-2
-mul-sum-2 c = let f = at (c .before .before .before .before) in simp (toZ-ofZ (f .c1-fits), f .bits) (f .p1)
+mul-sum-2 c = let f = at (c .before .before .before .before) in simp (f .cells .c1 .back, f .bits) (f .p1)
 
 add-sum : tie.Need-add-sum
 add-sum c =
     let f = at (c .before .before .before .before) in
-    simp (toZ-ofZ (f .c0-fits), toZ-ofZ (f .c1-fits), f .bits, toZ-ofZ (f .p0), toZ-ofZ (f .p1)) (f .s1)
+    simp (f .cells .c0 .back, f .cells .c1 .back, f .bits, toZ-ofZ (f .p0), toZ-ofZ (f .p1)) (f .s1)
+
+cast-sum-4 : tie.Need-cast-sum-4
+cast-sum-4 c = at (c .before .before .before .before .before .before) .cells .c2 .cast
 
 above-requires : tie.Need-above-requires
 above-requires c κs = search needs
 
 mul-sum-3 : tie.Need-mul-sum-3
 mul-sum-3 c =
-    let e = c .before .before in
-    let f = at (e .before .before .before .before .before) in
-    simp (e .above .ensures, toZ-ofZ (f .c2-fits), toZ-ofZ (f .above 550)) (f .p2)
+    let f = start c in
+    simp (c .above .ensures, f .cells .c2 .back, toZ-ofZ (f .above 550)) (f .p2)
 
 add-sum-2 : tie.Need-add-sum-2
 add-sum-2 c =
-    let e = c .before .before in
-    let f = at (e .before .before .before .before .before) in
+    let f = start c in
     simp (
-      e .above .ensures,
-      toZ-ofZ (f .c0-fits),
-      toZ-ofZ (f .c1-fits),
+      c .above .ensures,
+      f .cells .c0 .back,
+      f .cells .c1 .back,
       f .bits,
       toZ-ofZ (f .p0),
       toZ-ofZ (f .p1),
       toZ-ofZ (f .s1),
-      toZ-ofZ (f .c2-fits),
+      f .cells .c2 .back,
       toZ-ofZ (f .above 550),
       toZ-ofZ (f .p2),
     )
     (f .s2)
+
+cast-sum-5 : tie.Need-cast-sum-5
+cast-sum-5 c = start (c .before .before) .cells .c3 .cast
 
 above-requires-2 : tie.Need-above-requires-2
 above-requires-2 c κs = search needs
 
 mul-sum-4 : tie.Need-mul-sum-4
 mul-sum-4 c =
-    let g = c .before .before in
-    let e = g .before .before .before in
-    let f = at (e .before .before .before .before .before) in
-    simp (g .above2 .ensures, toZ-ofZ (f .c3-fits), toZ-ofZ (f .above 650)) (f .p3)
+    let e = c .before .before .before in
+    let f = start e in
+    simp (c .above2 .ensures, f .cells .c3 .back, toZ-ofZ (f .above 650)) (f .p3)
 
 add-sum-3 : tie.Need-add-sum-3
 add-sum-3 c =
-    let g = c .before .before in
-    let e = g .before .before .before in
-    let f = at (e .before .before .before .before .before) in
+    let e = c .before .before .before in
+    let f = start e in
     simp (
       e .above .ensures,
-      g .above2 .ensures,
-      toZ-ofZ (f .c0-fits),
-      toZ-ofZ (f .c1-fits),
+      c .above2 .ensures,
+      f .cells .c0 .back,
+      f .cells .c1 .back,
       f .bits,
       toZ-ofZ (f .p0),
       toZ-ofZ (f .p1),
       toZ-ofZ (f .s1),
-      toZ-ofZ (f .c2-fits),
+      f .cells .c2 .back,
       toZ-ofZ (f .above 550),
       toZ-ofZ (f .p2),
       toZ-ofZ (f .s2),
-      toZ-ofZ (f .c3-fits),
+      f .cells .c3 .back,
       toZ-ofZ (f .above 650),
       toZ-ofZ (f .p3),
     )
@@ -145,23 +151,22 @@ add-sum-3 c =
 
 mul-result : tie.Need-mul-result
 mul-result c =
-    let g = c .before .before in
-    let e = g .before .before .before in
-    let f = at (e .before .before .before .before .before) in
+    let e = c .before .before .before in
+    let f = start e in
     simp (
       e .above .ensures,
-      g .above2 .ensures,
-      toZ-ofZ (f .c0-fits),
-      toZ-ofZ (f .c1-fits),
+      c .above2 .ensures,
+      f .cells .c0 .back,
+      f .cells .c1 .back,
       f .bits,
       toZ-ofZ (f .p0),
       toZ-ofZ (f .p1),
       toZ-ofZ (f .s1),
-      toZ-ofZ (f .c2-fits),
+      f .cells .c2 .back,
       toZ-ofZ (f .above 550),
       toZ-ofZ (f .p2),
       toZ-ofZ (f .s2),
-      toZ-ofZ (f .c3-fits),
+      f .cells .c3 .back,
       toZ-ofZ (f .above 650),
       toZ-ofZ (f .p3),
       toZ-ofZ (f .s3),
@@ -171,23 +176,22 @@ mul-result c =
 returns : tie.Need-returns
 unfolding fMagFixed
 returns c =
-    let g = c .before .before in
-    let e = g .before .before .before in
-    let f = at (e .before .before .before .before .before) in
+    let e = c .before .before .before in
+    let f = start e in
     simp (
       e .above .ensures,
-      g .above2 .ensures,
-      toZ-ofZ (f .c0-fits),
-      toZ-ofZ (f .c1-fits),
+      c .above2 .ensures,
+      f .cells .c0 .back,
+      f .cells .c1 .back,
       f .bits,
       toZ-ofZ (f .p0),
       toZ-ofZ (f .p1),
       toZ-ofZ (f .s1),
-      toZ-ofZ (f .c2-fits),
+      f .cells .c2 .back,
       toZ-ofZ (f .above 550),
       toZ-ofZ (f .p2),
       toZ-ofZ (f .s2),
-      toZ-ofZ (f .c3-fits),
+      f .cells .c3 .back,
       toZ-ofZ (f .above 650),
       toZ-ofZ (f .p3),
       toZ-ofZ (f .s3),
@@ -198,13 +202,17 @@ pub f-mag-spec : {M : Type 1} → statement M
 f-mag-spec =
     tie.close
     (tie.spec
-    mul-sum
     cast-sum
+    mul-sum
+    cast-sum-2
+    cast-sum-3
     mul-sum-2
     add-sum
+    cast-sum-4
     above-requires
     mul-sum-3
     add-sum-2
+    cast-sum-5
     above-requires-2
     mul-sum-4
     add-sum-3

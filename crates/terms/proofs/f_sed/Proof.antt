@@ -16,6 +16,7 @@ use Rattle.tables.specs.declared.Coefficients.{Coefficients}
 use Rattle.model.specs.Fixed.{deepFixed, fSedFixed}
 use Rattle.tables.specs.OfTables.{OfTable2}
 use Rattle.model.proofs.Fair.{fair-of}
+use Rattle.model.proofs.Cells.{Cells, cells}
 use Rattle.model.proofs.Sizes.{deep-size, share-size, shallow-size}
 use Rattle.terms.proofs.f_sed.Statement.{statement}
 use Rattle.terms.proofs.f_sed.Tie as tie
@@ -23,9 +24,7 @@ use Rattle.terms.proofs.f_sed.Tie as tie
 record Steps (c : Coefficients) (z : ℕ) : Type 0 where
   bits : toZ w64 z ≡ pos z
   depth-fits : SFits w64 (pos z -ℤ pos 1000)
-  c11-fits : SFits w64 (c .c11)
-  c12-fits : SFits w64 (c .c12)
-  k3-fits : SFits w64 (c .k3)
+  cells : Cells c
   shallow : SFits w64 (c .c11 *ℤ (pos z -ℤ pos 1000))
   shallow-whole : SFits w64 (c .c11 *ℤ (pos z -ℤ pos 1000) *ℤ pos 1000)
   deep-fits : SFits w64 (pos (deepFixed z))
@@ -44,9 +43,7 @@ steps c z o h =
     record {
       bits = toZ-pos w64 (omega (arith, h));
       depth-fits = sfits-abs (pos z -ℤ pos 1000) (omega (arith, l));
-      c11-fits = sfits-abs (c .c11) (omega (arith, f .c11-small));
-      c12-fits = sfits-abs (c .c12) (omega (arith, f .c12-small));
-      k3-fits = sfits-abs (c .k3) (omega (arith, f .k3-small));
+      cells = cells c o;
       shallow = sfits-abs (c .c11 *ℤ (pos z -ℤ pos 1000)) (omega (arith, p));
       shallow-whole =
           sfits-abs (c .c11 *ℤ (pos z -ℤ pos 1000) *ℤ pos 1000)
@@ -67,20 +64,23 @@ at : (c : tie.Start) → Steps (c .args .c) (c .args .z)
 at c = steps (c .args .c) (c .args .z) (c .pre .0) (c .pre .1)
 
 cast-result : tie.Need-cast-result
-cast-result c = search needs
+cast-result c = at (c .before .before .before) .cells .c11 .cast
+
+cast-result-2 : tie.Need-cast-result-2
+cast-result-2 c = search needs
 
 sub-result : tie.Need-sub-result
-sub-result c = let f = at (c .before) in simp (f .bits) (f .depth-fits)
+sub-result c = let f = at (c .before .before .before) in simp (f .bits) (f .depth-fits)
 
 mul-result : tie.Need-mul-result
 mul-result c =
     let f = at (c .before .before .before) in
-    simp (f .bits, toZ-ofZ (f .depth-fits), toZ-ofZ (f .c11-fits)) (f .shallow)
+    simp (f .bits, toZ-ofZ (f .depth-fits), f .cells .c11 .back) (f .shallow)
 
 mul-result-2 : tie.Need-mul-result-2
 mul-result-2 c =
     let f = at (c .before .before .before) in
-    simp (f .bits, toZ-ofZ (f .depth-fits), toZ-ofZ (f .c11-fits), toZ-ofZ (f .shallow)) (f .shallow-whole)
+    simp (f .bits, toZ-ofZ (f .depth-fits), f .cells .c11 .back, toZ-ofZ (f .shallow)) (f .shallow-whole)
 
 returns : tie.Need-returns
 unfolding fSedFixed
@@ -88,7 +88,7 @@ returns c =
     let e = c .before .before in
     let f = at (e .before) in
     rw (lt-ltb (e .before .args .z) 1000 (e .if1 .taken), fSedFixed)
-    (simp (f .bits, toZ-ofZ (f .depth-fits), toZ-ofZ (f .c11-fits), toZ-ofZ (f .shallow), toZ-ofZ (f .shallow-whole)))
+    (simp (f .bits, toZ-ofZ (f .depth-fits), f .cells .c11 .back, toZ-ofZ (f .shallow), toZ-ofZ (f .shallow-whole)))
 
 returns-2 : tie.Need-returns-2
 unfolding fSedFixed
@@ -96,41 +96,50 @@ returns-2 c =
     let e = c .before in
     rw (le-ltb (e .before .args .z) 1000 (e .if1 .left), fSedFixed, le-leb (e .before .args .z) 3000 (c .if2 .taken))
 
+cast-mul-div : tie.Need-cast-mul-div
+cast-mul-div c = at (c .before .before .before .before) .cells .c12 .cast
+
+cast-mul-div-2 : tie.Need-cast-mul-div-2
+cast-mul-div-2 c = at (c .before .before .before .before .before .before) .cells .k3 .cast
+
 mul-mul-div : tie.Need-mul-mul-div
 mul-mul-div c =
-    let f = at (c .before .before .before .before) in
-    simp (toZ-ofZ (f .c12-fits), toZ-ofZ (f .k3-fits)) (f .both)
+    let f = at (c .before .before .before .before .before .before) in
+    simp (f .cells .c12 .back, f .cells .k3 .back) (f .both)
 
-cast-mul-div : tie.Need-cast-mul-div
-cast-mul-div c = let s = c .before .before .before .before in rw (s .pre .2) (at s .deep-fits)
+cast-mul-div-3 : tie.Need-cast-mul-div-3
+cast-mul-div-3 c = let s = c .before .before .before .before .before .before in rw (s .pre .2) (at s .deep-fits)
 
 mul-div-requires : tie.Need-mul-div-requires
 mul-div-requires c κs =
-    let s = c .before .before .before .before in
+    let s = c .before .before .before .before .before .before in
     let f = at s in
-    simp (s .pre .2, f .deep-bits, toZ-ofZ (f .c12-fits), toZ-ofZ (f .k3-fits), toZ-ofZ (f .both)) (f .product, lit≤ tt)
+    simp (s .pre .2, f .deep-bits, f .cells .c12 .back, f .cells .k3 .back, toZ-ofZ (f .both)) (f .product, lit≤ tt)
 
 returns-3 : tie.Need-returns-3
 unfolding fSedFixed
 returns-3 c =
-    let e = c .before .before .before in
+    let e = c .before .before .before .before .before in
     let s = e .before .before in
     let f = at s in
     rw (le-ltb (s .args .z) 1000 (e .before .if1 .left), fSedFixed, lt-leb (s .args .z) 3000 (e .if2 .left))
     (simp
-    (c .mul-div .ensures, s .pre .2, f .deep-bits, toZ-ofZ (f .c12-fits), toZ-ofZ (f .k3-fits), toZ-ofZ (f .both), toZ-ofZ (f .deep-whole)))
+    (c .mul-div .ensures, s .pre .2, f .deep-bits, f .cells .c12 .back, f .cells .k3 .back, toZ-ofZ (f .both), toZ-ofZ (f .deep-whole)))
 
 pub f-sed-spec : {M : Type 1} → statement M
 f-sed-spec =
     tie.close
     (tie.spec
     cast-result
+    cast-result-2
     sub-result
     mul-result
     mul-result-2
     returns
     returns-2
-    mul-mul-div
     cast-mul-div
+    cast-mul-div-2
+    mul-mul-div
+    cast-mul-div-3
     mul-div-requires
     returns-3)

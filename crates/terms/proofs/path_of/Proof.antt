@@ -1,4 +1,5 @@
 -- RRUP² + c6² lies from 16 to below 65 000 square kilometres. Assumes nothing.
+use borrow.Author.Needs.{needs}
 use Prim.Native.Nat.{ℕ, _+_, _*_, _≤_, _<_}
 use mathlib.Core.Path.{_≡_, ap, _∙_}
 use native.Mathlib.Omega.{arith}
@@ -35,8 +36,11 @@ squares c x o r =
 at : (c : tie.Start) → Squares (c .args .x .rrup) (c .args .c .c6)
 at c = squares (c .args .c) (c .args .x) (c .pre .0) (c .pre .1)
 
+cast-near : tie.Need-cast-near
+cast-near c = search needs
+
 mul-square : tie.Need-mul-square
-mul-square c = let s = at (c .before) in record { fits = omega (arith, s .a-high) }
+mul-square c = let s = at (c .before .before) in record { fits = omega (arith, s .a-high) }
 
 mul-square-2 : tie.Need-mul-square-2
 mul-square-2 c = let s = at (c .before .before) in record { fits = omega (arith, s .b-high) }
@@ -69,4 +73,4 @@ returns c =
     simp (e, toZ-ofZ n)
 
 pub path-of-spec : {M : Type 1} → statement M
-path-of-spec = tie.close (tie.spec mul-square mul-square-2 add-square mul-ln-fixed ln-fixed-requires returns)
+path-of-spec = tie.close (tie.spec cast-near mul-square mul-square-2 add-square mul-ln-fixed ln-fixed-requires returns)
