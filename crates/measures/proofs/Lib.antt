@@ -1,2 +1,1 @@
-pub mod MeasureRead
 pub mod FilledRows

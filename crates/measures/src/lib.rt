@@ -7,9 +7,7 @@ use model::Fine;
 use model::Scenario;
 use short_periods::is_short;
 use short_periods::not_below_pga;
-use sigmas::Settled;
 use sigmas::intra_variance;
-use sigmas::settled_at;
 use sigmas::squared;
 use site::Rock;
 use site::Soil;
@@ -18,7 +16,6 @@ use site::f_site;
 use site::rock_of;
 use site::soil_of;
 use tables::Coefficients;
-use tables::Deviations;
 use tables::MEASURES;
 use tables::PGA;
 use tables::coefficients_at;
@@ -29,58 +26,33 @@ use terms::path_of;
 ghost use mathlib.Core.Path.{_≡_};
 ghost use Prim.Native.Nat.{ℕ, _<_};
 ghost use lib.ListN.{length, getD};
-ghost use Rattle.tables.specs.Tables.{measures};
+ghost use Rattle.tables.specs.Tables.{measures, coefficientsAt};
 ghost use Rattle.tables.specs.OfTables.{OfTable2};
 ghost use Rattle.model.specs.Accuracy.{InRange};
-ghost use Rattle.model.specs.Fixed.{lnOwnFixed, ownFixed, fineFixed, noFine};
+ghost use Rattle.model.specs.Fixed.{rockPGAFixed, lnMedianAtFixed, ownFixed, fineFixed, noFine};
 ghost use Rattle.factors.specs.Factoring.{factorsOf};
 ghost use Rattle.terms.specs.Paths.{pathOf};
 ghost use Rattle.site.specs.Sharing.{rockOf, soilOf};
-ghost use Rattle.measures.specs.Measuring.{measureAt, OfMeasure};
 
-// What belongs to a measure: its number, its rows of Tables 2 and 3, and what Table 3 alone fixes.
-pub struct Measure {
-    pub number: usize,
-    pub c: Coefficients,
-    pub d: Deviations,
-    pub settled: Settled,
-}
-
-// The measure of a number.
-fn measure_at(i: usize) -> Measure
-    ensures { λ m. ⌜ m ≡ measureAt i ⌝ }
+// The ln median of a row of Table 2 by itself, in units of 10^-9.
+fn ln_own(c: Coefficients, x: Scenario, f: Factors, path: Path, soil: Soil) -> i64
+    requires { ⌜ OfTable2 c × InRange x × (f ≡ factorsOf x) × (path ≡ pathOf (c .c6) x) × (soil ≡ soilOf (c .k1) x) ⌝ }
+    ensures { λ r. ⌜ r ≡ lnMedianAtFixed c x (x .vs30) (rockPGAFixed x) ⌝ }
 {
-    Measure {
-        number: i,
-        c: coefficients_at(i),
-        d: deviations_at(i),
-        settled: settled_at(i),
-    }
-}
-
-// The ln median of a measure by itself, in units of 10^-9.
-fn ln_own(m: Measure, x: Scenario, f: Factors, path: Path, soil: Soil) -> i64
-    requires { ⌜ OfMeasure m × InRange x × (f ≡ factorsOf x) × (path ≡ pathOf (m .c .c6) x) × (soil ≡ soilOf (m .c .k1) x) ⌝ }
-    ensures { λ r. ⌜ r ≡ lnOwnFixed (m .number) x ⌝ }
-{
-    let c = m.c;
     ln_sum(c, x, f, path, f_site(c, x, soil))
 }
 
 // The fine row of a measure by itself, from what is worked out once for a request, a c6 and a k1.
-fn own_from(m: Measure, x: Scenario, f: Factors, path: Path, soil: Soil) -> Fine
-    requires { ⌜ OfMeasure m × InRange x × (f ≡ factorsOf x) × (path ≡ pathOf (m .c .c6) x) × (soil ≡ soilOf (m .c .k1) x) ⌝ }
-    ensures { λ r. ⌜ r ≡ ownFixed (m .number) x ⌝ }
+fn own_from(i: usize, c: Coefficients, x: Scenario, f: Factors, path: Path, soil: Soil) -> Fine
+    requires { ⌜ (i < measures) × (c ≡ coefficientsAt i) × InRange x × (f ≡ factorsOf x) × (path ≡ pathOf (c .c6) x) × (soil ≡ soilOf (c .k1) x) ⌝ }
+    ensures { λ r. ⌜ r ≡ ownFixed i x ⌝ }
 {
-    let l = ln_own(m, x, f, path, soil);
-    let c = m.c;
-    let d = m.d;
-    let settled = m.settled;
-    let intra = intra_variance(d, settled.cross, alpha_of(c, x, soil));
+    let d = deviations_at(i);
+    let intra = intra_variance(i, d, alpha_of(c, x, soil));
     let total = intra + squared(d.t);
     let arbitrary = total + squared(d.sC);
     Fine {
-        ln: l,
+        ln: ln_own(c, x, f, path, soil),
         intra: intra,
         t: d.t as u64,
         total: total,
@@ -116,18 +88,20 @@ pub fn fine_at(i: usize, x: Scenario) -> Fine
     requires { ⌜ (i < measures) × InRange x ⌝ }
     ensures { λ r. ⌜ r ≡ fineFixed i x ⌝ }
 {
-    let m = measure_at(i);
-    let m0 = measure_at(PGA);
-    let c = m.c;
-    let c0 = m0.c;
+    let c = coefficients_at(i);
+    let pga = coefficients_at(PGA);
     let f = factors_of(x);
-    let path = path_of(c0, x);
-    let rock = rock_of(c0, x, f, path);
-    let own = own_from(m, x, f, next_path(path, c, x), soil_of(c, x, rock));
+    let path = path_of(pga, x);
+    let rock = rock_of(pga, x, f, path);
+    let own = own_from(i, c, x, f, next_path(path, c, x), soil_of(c, x, rock));
     if !is_short(i) {
         return own;
     }
-    not_below_pga(i, own, own_from(m0, x, f, path, soil_of(c0, x, rock)))
+    not_below_pga(
+        i,
+        own,
+        own_from(PGA, pga, x, f, path, soil_of(pga, x, rock)),
+    )
 }
 
 // The fine rows of all measures. PGA's comes first, likewise; from there on measures that are alike in c6
@@ -144,22 +118,20 @@ pub fn fine_rows_of(x: Scenario) -> [Fine; MEASURES]
         arbitrary: 0,
     };
     let mut rows = [none; MEASURES];
-    let m0 = measure_at(PGA);
-    let c0 = m0.c;
+    let c0 = coefficients_at(PGA);
     let f = factors_of(x);
     let mut path = path_of(c0, x);
     let rock = rock_of(c0, x, f, path);
     let mut soil = soil_of(c0, x, rock);
-    let pga = own_from(m0, x, f, path, soil);
+    let pga = own_from(PGA, c0, x, f, path, soil);
     rows[PGA] = pga;
     let mut k = 0usize;
     while k < MEASURES {
         if k != PGA {
-            let m = measure_at(k);
-            let c = m.c;
+            let c = coefficients_at(k);
             path = next_path(path, c, x);
             soil = next_soil(soil, c, x, rock);
-            rows[k] = not_below_pga(k, own_from(m, x, f, path, soil), pga);
+            rows[k] = not_below_pga(k, own_from(k, c, x, f, path, soil), pga);
         }
         k += 1;
     }

@@ -10,7 +10,6 @@ use reckon::exp_fixed;
 use reckon::round_div;
 use sigmas::arbitrary_of;
 use sigmas::intra_of;
-use sigmas::settled_at;
 use sigmas::total_of;
 use tables::MEASURES;
 use tables::deviations_at;
@@ -36,14 +35,13 @@ pub fn report_of(i: usize, f: Fine) -> Row
     ensures { λ r. ⌜ r ≡ report f ⌝ }
 {
     let d = deviations_at(i);
-    let known = settled_at(i);
     Row {
         ln: round_div(f.ln, 1_000),
         median: at_least_one(exp_fixed(f.ln)),
         intra: intra_of(d, f.intra),
         inter: f.t * 1_000,
-        total: total_of(d, known, f.total),
-        arbitrary: arbitrary_of(d, known, f.arbitrary),
+        total: total_of(i, d, f.total),
+        arbitrary: arbitrary_of(i, d, f.arbitrary),
     }
 }
 
@@ -53,11 +51,10 @@ pub fn shown_of(i: usize, f: Fine) -> Shown
     ensures { λ r. ⌜ r ≡ shownOf (report f) ⌝ }
 {
     let d = deviations_at(i);
-    let known = settled_at(i);
     Shown {
         ln: round_div(f.ln, 1_000),
         median: at_least_one(exp_fixed(f.ln)),
-        sigma: total_of(d, known, f.total),
+        sigma: total_of(i, d, f.total),
     }
 }
 

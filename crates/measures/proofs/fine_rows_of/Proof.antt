@@ -12,12 +12,11 @@ use Rattle.model.specs.declared.Fine.{Fine}
 use Rattle.site.specs.declared.Soil.{Soil}
 use Rattle.terms.specs.declared.Path.{Path}
 use Rattle.tables.specs.Tables.{PGA}
-use Rattle.model.specs.Fixed.{ownFixed}
+use Rattle.tables.proofs.RowsRead.{of-row, pga-row}
 use Rattle.model.proofs.ShortPeriods.{fine-pga, fine-raised}
 use Rattle.terms.specs.Paths.{pathOf}
 use Rattle.site.specs.Sharing.{soilOf}
 use Rattle.measures.proofs.FilledRows.{Filled, set-filled, pass-filled, path-again, soil-again}
-use Rattle.measures.proofs.MeasureRead.{of-number, row-2, of-2, own-at}
 use Rattle.measures.proofs.fine_rows_of.Statement.{statement}
 use Rattle.measures.proofs.fine_rows_of.Tie as tie
 
@@ -42,85 +41,68 @@ abbrev μ-loop : tie.MeasureT-loop
 μ-loop x rows₀ f path₀ rock soil₀ pga k₀ rows path soil k = 24 - k
 
 -- ---- before the loop
-measure-at-requires : tie.Need-measure-at-requires Inv-loop μ-loop
-measure-at-requires c κs = search needs
+coefficients-at-requires : tie.Need-coefficients-at-requires Inv-loop μ-loop
+coefficients-at-requires c κs = search needs
 
 factors-of-requires : tie.Need-factors-of-requires Inv-loop μ-loop
 factors-of-requires c κs = search needs
 
 path-of-requires : tie.Need-path-of-requires Inv-loop μ-loop
-path-of-requires c κs = let m = c .before .before in (of-2 PGA (m .measure-at .ensures) (lit< tt), m .before .pre)
+path-of-requires c κs = let m = c .before in (pga-row _ (m .coefficients-at .ensures), m .before .pre)
 
 rock-of-requires : tie.Need-rock-of-requires Inv-loop μ-loop
 rock-of-requires c κs =
     let f = c .before in
-    let m = f .before .before in
-    (row-2 PGA (m .measure-at .ensures), m .before .pre, f .factors-of .ensures, c .path-of .ensures)
+    let m = f .before in
+    (m .coefficients-at .ensures, m .before .pre, f .factors-of .ensures, c .path-of .ensures)
 
 soil-of-requires : tie.Need-soil-of-requires Inv-loop μ-loop
-soil-of-requires c κs =
-    let m = c .before .before .before .before in
-    (of-2 PGA (m .measure-at .ensures) (lit< tt), m .before .pre, c .rock-of .ensures)
+soil-of-requires c κs = let m = c .before .before .before in (pga-row _ (m .coefficients-at .ensures), m .before .pre, c .rock-of .ensures)
 
 own-from-requires : tie.Need-own-from-requires Inv-loop μ-loop
 own-from-requires c κs =
     let p = c .before .before in
     let f = p .before in
-    let m = f .before .before in (
-      of-number PGA (m .measure-at .ensures) (lit< tt),
-      m .before .pre,
-      f .factors-of .ensures,
-      p .path-of .ensures,
-      c .soil-of .ensures,
-    )
-
--- PGA's own row
-own-pga : (c : tie.After-own-from Inv-loop μ-loop) → c .own-from .result ≡ ownFixed PGA (c .before .before .before .before .before .before .before .args .x)
-own-pga c =
-    let m = c .before .before .before .before .before .before in
-    own-at PGA (m .measure-at .ensures) (m .before .args .x) (c .own-from .ensures)
+    let m = f .before in
+    (lit< tt, m .coefficients-at .ensures, m .before .pre, f .factors-of .ensures, p .path-of .ensures, c .soil-of .ensures)
 
 array-set-from-rows : tie.Need-array-set-from-rows Inv-loop μ-loop
 array-set-from-rows c = search needs
 
 loop-holds : tie.Need-loop-holds Inv-loop μ-loop
 loop-holds c =
-    let x = c .before .before .before .before .before .before .before .args .x in
+    let x = c .before .before .before .before .before .before .args .x in
     record {
-      filled = record { whole = refl; pga = fine-pga x (own-pga c); below = λ j l. absurd (omega (arith, l)) };
+      filled = record { whole = refl; pga = fine-pga x (c .own-from .ensures); below = λ j l. absurd (omega (arith, l)) };
       path-is = path-again x _ _ (c .before .before .before .path-of .ensures);
       soil-is = soil-again x _ _ (c .before .soil-of .ensures);
       end = omega arith;
     }
 
 -- ---- a turn
-measure-at-requires-2 : tie.Need-measure-at-requires-2 Inv-loop μ-loop
-measure-at-requires-2 c κs = search needs
+coefficients-at-requires-2 : tie.Need-coefficients-at-requires-2 Inv-loop μ-loop
+coefficients-at-requires-2 c κs = search needs
 
 next-path-requires : tie.Need-next-path-requires Inv-loop μ-loop
 next-path-requires c κs =
-    let m = c .before in
-    let l = m .before .before in
-    (of-2 (l .before .loop .k) (m .measure-at2 .ensures) (l .loop-test .taken), l .before .before .before .before .before .before .before .before .before .pre, l .before .loop .inv .path-is)
+    let l = c .before .before in
+    let s = l .before .before .before .before .before .before .before .before in
+    (of-row (l .before .loop .k) _ (l .loop-test .taken) (c .coefficients-at2 .ensures), s .pre, l .before .loop .inv .path-is)
 
 next-soil-requires : tie.Need-next-soil-requires Inv-loop μ-loop
 next-soil-requires c κs =
-    let m = c .before .before in
+    let m = c .before in
     let l = m .before .before in
     let r = l .before .before .before .before in
-    (of-2 (l .before .loop .k) (m .measure-at2 .ensures) (l .loop-test .taken), r .before .before .before .before .before .pre, r .rock-of .ensures, l .before .loop .inv .soil-is)
+    let s = r .before .before .before .before in
+    (of-row (l .before .loop .k) _ (l .loop-test .taken) (m .coefficients-at2 .ensures), s .pre, r .rock-of .ensures, l .before .loop .inv .soil-is)
 
 own-from-requires-2 : tie.Need-own-from-requires-2 Inv-loop μ-loop
 own-from-requires-2 c κs =
-    let m = c .before .before .before in
+    let m = c .before .before in
     let l = m .before .before in
-    let f = l .before .before .before .before .before .before in (
-      of-number (l .before .loop .k) (m .measure-at2 .ensures) (l .loop-test .taken),
-      f .before .before .before .pre,
-      f .factors-of .ensures,
-      c .before .next-path .ensures,
-      c .next-soil .ensures,
-    )
+    let f = l .before .before .before .before .before .before in
+    (l .loop-test .taken, m .coefficients-at2 .ensures, f .before .before .pre, f .factors-of .ensures, c .before .next-path .ensures, c .next-soil .ensures)
 
 not-below-pga-requires : tie.Need-not-below-pga-requires Inv-loop μ-loop
 not-below-pga-requires c κs = search needs
@@ -129,7 +111,7 @@ mul-rows : tie.Need-mul-rows Inv-loop μ-loop
 mul-rows c = search needs
 
 array-set-from-rows-2 : tie.Need-array-set-from-rows-2 Inv-loop μ-loop
-array-set-from-rows-2 c = c .before .before .before .before .before .before .before .loop-test .taken
+array-set-from-rows-2 c = c .before .before .before .before .before .before .loop-test .taken
 
 add-k : tie.Need-add-k Inv-loop μ-loop
 add-k c = search needs
@@ -142,18 +124,18 @@ loop-again c =
     let t = c .before in
     let l = t .before in
     let p = l .before in
-    let x = p .before .before .before .before .before .before .before .args .x in
+    let x = p .before .before .before .before .before .before .args .x in
     let k = l .loop .k in
     ⊎-elim
     (λ w.
-    same-turn x (k + 1) (w .7) (w .8) (w .9)
+    same-turn x (k + 1) (w .6) (w .7) (w .8)
     (record {
       filled =
           set-filled x (l .loop .rows) k _ (t .loop-test .taken) (w .0 .taken)
-          (w .6 .ensures ∙ fine-raised k x (own-at k (w .1 .ensures) x (w .5 .ensures)) (own-pga p))
+          (w .5 .ensures ∙ fine-raised k x (w .4 .ensures) (p .own-from .ensures))
           (l .loop .inv .filled);
-      path-is = path-again x _ _ (w .3 .ensures);
-      soil-is = soil-again x _ _ (w .4 .ensures);
+      path-is = path-again x _ _ (w .2 .ensures);
+      soil-is = soil-again x _ _ (w .3 .ensures);
       end = omega (arith, t .loop-test .taken);
     }))
     (λ w.
@@ -177,7 +159,7 @@ fine-rows-of-spec =
     (tie.spec
     Inv-loop
     μ-loop
-    measure-at-requires
+    coefficients-at-requires
     factors-of-requires
     path-of-requires
     rock-of-requires
@@ -185,7 +167,7 @@ fine-rows-of-spec =
     own-from-requires
     array-set-from-rows
     loop-holds
-    measure-at-requires-2
+    coefficients-at-requires-2
     next-path-requires
     next-soil-requires
     own-from-requires-2

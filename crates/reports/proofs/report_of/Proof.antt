@@ -1,63 +1,52 @@
 -- Each field by its own function; ln median lies in the exponential's range. Assumes nothing.
 use borrow.Author.Needs.{needs}
-use mathlib.Core.Path.{_≡_}
 use native.Mathlib.Omega.{arith}
 use native.Mathlib.Nat.{le-trans}
 use lib.Dec.{lit≤}
 use mir.Facts.{toZ-ofZ}
-use Rattle.tables.specs.OfTables.{OfTable3}
+use Rattle.tables.proofs.RowsRead.{of-deviations}
 use Rattle.model.specs.Fixed.{report}
-use Rattle.sigmas.specs.Settling.{settledOf}
 use Rattle.reports.proofs.LnFits.{ln-fits, ln-abs, nearest-fits}
-use Rattle.reports.proofs.OneRow.{one-row}
 use Rattle.reports.proofs.report_of.Statement.{statement}
 use Rattle.reports.proofs.report_of.Tie as tie
 
 deviations-at-requires : tie.Need-deviations-at-requires
 deviations-at-requires c κs = search needs
 
-settled-at-requires : tie.Need-settled-at-requires
-settled-at-requires c κs = search needs
-
 round-div-requires : tie.Need-round-div-requires
 round-div-requires c κs =
-    let s = c .before .before .before in
+    let s = c .before .before in
     let f = s .args .f in
     let r = s .pre .1 in
     simp (toZ-ofZ (ln-fits (f .ln) (r .ln-low) (r .ln-high))) (omega (arith, ln-abs (f .ln) (r .ln-low) (r .ln-high)), lit≤ tt, lit≤ tt)
 
 exp-fixed-requires : tie.Need-exp-fixed-requires
 exp-fixed-requires c κs =
-    let s = c .before .before .before .before .before in
+    let s = c .before .before .before .before in
     let r = s .pre .1 in
     simp (toZ-ofZ (ln-fits (s .args .f .ln) (r .ln-low) (r .ln-high))) (le-trans (r .ln-high) (lit≤ tt), le-trans (r .ln-low) (lit≤ tt))
 
 at-least-one-requires : tie.Need-at-least-one-requires
 at-least-one-requires c κs = search needs
 
--- the measure's rows, as the sigmas ask for them
-known :
-    (k : tie.After-settled-at)
-    → OfTable3 (k .before .deviations-at .result) × (k .settled-at .result ≡ settledOf (k .before .deviations-at .result))
-known k = one-row (k .before .before .args .i) (k .before .before .pre .0) (k .before .deviations-at .ensures) (k .settled-at .ensures)
-
 intra-of-requires : tie.Need-intra-of-requires
 intra-of-requires c κs =
-    let k = c .before .before .before .before .before in
-    (known k .0, k .before .before .pre .1 .intra-high)
+    let d = c .before .before .before .before .before in
+    let s = d .before in
+    (of-deviations (s .args .i) _ (s .pre .0) (d .deviations-at .ensures), s .pre .1 .intra-high)
 
-mul-t9 : tie.Need-mul-t9
-mul-t9 c = search needs
+mul-t8 : tie.Need-mul-t8
+mul-t8 c = search needs
 
 total-of-requires : tie.Need-total-of-requires
 total-of-requires c κs =
-    let k = c .before .before .before .before .before .before .before in
-    (known k .0, known k .1, k .before .before .pre .1 .total-high)
+    let d = c .before .before .before .before .before .before .before in
+    (d .before .pre .0, d .deviations-at .ensures, d .before .pre .1 .total-high)
 
 arbitrary-of-requires : tie.Need-arbitrary-of-requires
 arbitrary-of-requires c κs =
-    let k = c .before .before .before .before .before .before .before .before in
-    (known k .0, known k .1, k .before .before .pre .1 .arbitrary-high)
+    let d = c .before .before .before .before .before .before .before .before in
+    (d .before .pre .0, d .deviations-at .ensures, d .before .pre .1 .arbitrary-high)
 
 returns : tie.Need-returns
 unfolding report
@@ -67,7 +56,7 @@ returns c =
     let o = v .before in
     let e = o .before in
     let r = e .before .before in
-    let s = r .before .before .before .before in
+    let s = r .before .before .before in
     let f = s .args .f in
     let h = s .pre .1 in
     simp (
@@ -86,12 +75,11 @@ report-of-spec =
     tie.close
     (tie.spec
     deviations-at-requires
-    settled-at-requires
     round-div-requires
     exp-fixed-requires
     at-least-one-requires
     intra-of-requires
-    mul-t9
+    mul-t8
     total-of-requires
     arbitrary-of-requires
     returns)

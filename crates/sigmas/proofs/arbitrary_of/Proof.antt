@@ -1,18 +1,18 @@
 -- The known root is that of s² + t² + sC². Assumes nothing.
-use Prim.Native.Nat.{_≤_, _+_}
-use mathlib.Core.Path.{_≡_, ap}
+use borrow.Author.Needs.{needs}
+use Prim.Native.Nat.{_+_, _≤_}
+use mathlib.Core.Path.{sym, ap, ap₂, _∙_}
 use native.Mathlib.Omega.{arith}
 use native.Mathlib.Nat.{mul-le-mul}
-use borrow.Author.Needs.{needs}
-use Rattle.model.specs.Fixed.{squaredFixed}
+use Rattle.tables.proofs.RowsRead.{of-deviations}
+use Rattle.model.specs.Fixed.{squaredFixed, sigmaOf}
 use Rattle.model.proofs.Fair.{Spread, spread-of}
-use Rattle.sigmas.specs.declared.Settled.{Settled}
-use Rattle.sigmas.specs.Settling.{linearArbitrary, settledOf}
+use Rattle.sigmas.specs.Linear.{linearArbitrary}
 use Rattle.sigmas.proofs.arbitrary_of.Statement.{statement}
 use Rattle.sigmas.proofs.arbitrary_of.Tie as tie
 
 small : (c : tie.Start) → Spread (c .args .d)
-small c = spread-of (c .args .d) (c .pre .0)
+small c = spread-of (c .args .d) (of-deviations (c .args .i) (c .args .d) (c .pre .0) (c .pre .1))
 
 squared-requires : tie.Need-squared-requires
 squared-requires c κs = omega (arith, small c)
@@ -27,39 +27,51 @@ squares c =
     let f = small c in
     omega (arith, mul-le-mul (f .s-high) (f .s-high), mul-le-mul (f .t-high) (f .t-high), mul-le-mul (f .sC-high) (f .sC-high))
 
-add-sigma-or : tie.Need-add-sigma-or
-add-sigma-or c =
+add-if1 : tie.Need-add-if1
+add-if1 c =
     let s = c .before .before in
     record { fits = omega (arith, c .squared2 .ensures, c .before .squared .ensures, squares s) }
 
 squared-requires-3 : tie.Need-squared-requires-3
 squared-requires-3 c κs = omega (arith, small (c .before .before))
 
-add-sigma-or-2 : tie.Need-add-sigma-or-2
-add-sigma-or-2 c =
+add-if1-2 : tie.Need-add-if1-2
+add-if1-2 c =
     let t = c .before in
-    let s = t .before .before in
-    record { fits = omega (arith, c .squared3 .ensures, t .squared2 .ensures, t .before .squared .ensures, squares s) }
+    record { fits = omega (arith, c .squared3 .ensures, t .squared2 .ensures, t .before .squared .ensures, squares (t .before .before)) }
 
-cast-sigma-or : tie.Need-cast-sigma-or
-cast-sigma-or c = search needs
+linear-arbitrary-at-requires : tie.Need-linear-arbitrary-at-requires
+linear-arbitrary-at-requires c κs = search needs
 
-known : (c : tie.Start) → c .args .f .arbitrary ≡ linearArbitrary (c .args .d)
-unfolding settledOf
-known c = ap (λ (f : Settled). f .arbitrary) (c .pre .1)
-
-sigma-or-requires : tie.Need-sigma-or-requires
-unfolding linearArbitrary
-sigma-or-requires c κs =
-    let q = c .before in
-    let t = q .before in
-    let s = t .before .before in
-    (rw (q .squared3 .ensures, t .squared2 .ensures, t .before .squared .ensures) (known s), s .pre .2)
+cast-result : tie.Need-cast-result
+cast-result c = search needs
 
 returns : tie.Need-returns
-returns c = search needs
+unfolding linearArbitrary
+returns c =
+    let f = c .before in
+    let q = f .before in
+    let t = q .before in
+    let s = t .before .before in
+    c .linear-arbitrary-at .ensures ∙ ap linearArbitrary (sym (s .pre .1)) ∙ ap sigmaOf (sym (f .if1 .taken ∙ ap₂ _+_ (ap₂ _+_ (t .before .squared .ensures) (t .squared2 .ensures)) (q .squared3 .ensures)))
+
+sigma-of-requires : tie.Need-sigma-of-requires
+sigma-of-requires c κs = c .before .before .before .before .pre .2
+
+returns-2 : tie.Need-returns-2
+returns-2 c = c .sigma-of .ensures
 
 pub arbitrary-of-spec : {M : Type 1} → statement M
 arbitrary-of-spec =
     tie.close
-    (tie.spec squared-requires squared-requires-2 add-sigma-or squared-requires-3 add-sigma-or-2 cast-sigma-or sigma-or-requires returns)
+    (tie.spec
+    squared-requires
+    squared-requires-2
+    add-if1
+    squared-requires-3
+    add-if1-2
+    linear-arbitrary-at-requires
+    cast-result
+    returns
+    sigma-of-requires
+    returns-2)

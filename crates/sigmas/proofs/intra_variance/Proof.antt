@@ -1,5 +1,6 @@
 -- Each step of the code is the definition's, and its size keeps it within 64 bits; with alpha 0 what is added to s² is 0. Assumes
 -- nothing.
+use borrow.Author.Needs.{needs}
 use Prim.Native.Nat.{_+_, _*_, _^_, _≤_, _<_}
 use mathlib.Core.Path.{_≡_, sym, ap, _∙_}
 use native.Mathlib.Omega.{arith}
@@ -14,10 +15,10 @@ use Rattle.exact.proofs.Signed.{sfits-abs, add-abs, abs-parts, by-sign, lt-read
 use Rattle.fixed.specs.Fixed.{E9}
 use Rattle.fixed.proofs.SignedLaws.{mulDiv-abs}
 use Rattle.tables.specs.declared.Deviations.{Deviations}
+use Rattle.tables.proofs.RowsRead.{of-deviations}
 use Rattle.model.specs.Fixed.{squaredFixed, crossFixed, intraVarianceFixed}
-use Rattle.model.proofs.Fair.{Spread}
 use Rattle.sigmas.proofs.LinearSite.{rock-is, yOf, addedOf, flat}
-use Rattle.model.proofs.Fair.{spread-of}
+use Rattle.model.proofs.Fair.{Spread, spread-of}
 use Rattle.model.proofs.Sizes.{y-fits}
 use Rattle.sigmas.proofs.intra_variance.Statement.{statement}
 use Rattle.sigmas.proofs.intra_variance.Tie as tie
@@ -50,11 +51,14 @@ steps d a f h =
       whole-in = sfits-abs (pos (squaredFixed (d .s)) +ℤ addedOf d a) (omega (arith, add-abs (pos (squaredFixed (d .s))) (addedOf d a)));
     }
 
+spread : (c : tie.Start) → Spread (c .args .d)
+spread c = spread-of (c .args .d) (of-deviations (c .args .i) (c .args .d) (c .pre .0) (c .pre .1))
+
 here : (c : tie.Start) → Steps (c .args .d) (c .args .alpha)
-here c = steps (c .args .d) (c .args .alpha) (spread-of (c .args .d) (c .pre .0)) (c .pre .2)
+here c = steps (c .args .d) (c .args .alpha) (spread c) (c .pre .2)
 
 squared-requires : tie.Need-squared-requires
-squared-requires c κs = omega (arith, spread-of (c .args .d) (c .pre .0))
+squared-requires c κs = omega (arith, spread c)
 
 -- s², as it was worked out
 linear-is : (c : tie.After-squared) → c .squared .result ≡ squaredFixed (c .before .args .d .s)
@@ -84,55 +88,59 @@ cast-more c =
     let l = c .before .before in
     record { sfits = omega (arith, linear-is l, here (l .before) .square-low) }
 
-cross-le : (c : tie.Start) → c .args .cross ≤ 800000000
-cross-le c = omega (arith, c .pre .1, here c .cross-low)
+cross-at-requires : tie.Need-cross-at-requires
+cross-at-requires c κs = search needs
+
+-- the measure's own 2 rho sigma_lnYB
+cross-is : (c : tie.After-cross-at) → c .cross-at .result ≡ crossFixed (c .before .before .before .before .args .d)
+cross-is c = c .cross-at .ensures ∙ ap crossFixed (sym (c .before .before .before .before .pre .1))
 
 cast-mul-div : tie.Need-cast-mul-div
-cast-mul-div c = record { sfits = omega (arith, cross-le (c .before .before .before)) }
+cast-mul-div c = record { sfits = omega (arith, cross-is c, here (c .before .before .before .before) .cross-low) }
 
 -- y and its sum, as the machine reads them
 y-read : (c : tie.After-mul-div) → toZ w64 (ofZ w64 (c .mul-div .result)) ≡ yOf (c .before .before .before .args .alpha)
 y-read c = rw (y-is c) (toZ-ofZ (here (c .before .before .before) .y-in))
 
-cross-read : (c : tie.After-mul-div) → toZ w64 (c .before .before .before .args .cross) ≡ pos (crossFixed (c .before .before .before .args .d))
-cross-read c = toZ-pos w64 (cast-mul-div c .sfits) ∙ ap pos (c .before .before .before .pre .1)
+cross-read : (c : tie.After-cross-at) → toZ w64 (c .cross-at .result) ≡ pos (crossFixed (c .before .before .before .before .args .d))
+cross-read c = toZ-pos w64 (cast-mul-div c .sfits) ∙ ap pos (cross-is c)
 
 add-mul-div : tie.Need-add-mul-div
-add-mul-div c = rw (y-read c, cross-read c) (here (c .before .before .before) .sum-in)
+add-mul-div c = rw (y-read (c .before), cross-read c) (here (c .before .before .before .before) .sum-in)
 
 mul-div-requires-2 : tie.Need-mul-div-requires-2
 mul-div-requires-2 c κs =
-    let f = here (c .before .before .before) in
-    rw (y-read c, cross-read c, toZ-ofZ (f .sum-in)) (f .product, lit≤ tt)
+    let f = here (c .before .before .before .before) in
+    rw (y-read (c .before), cross-read c, toZ-ofZ (f .sum-in)) (f .product, lit≤ tt)
 
 -- what the code adds to s²
 added-is :
     (c : tie.After-mul-div2)
     → c .mul-div2 .result
-    ≡ addedOf (c .before .before .before .before .args .d) (c .before .before .before .before .args .alpha)
+    ≡ addedOf (c .before .before .before .before .before .args .d) (c .before .before .before .before .before .args .alpha)
 added-is c =
     let x = c .before in
-    let f = here (x .before .before .before) in
-    c .mul-div2 .ensures ∙ rw (y-read x, cross-read x, toZ-ofZ (f .sum-in))
+    let f = here (x .before .before .before .before) in
+    c .mul-div2 .ensures ∙ rw (y-read (x .before), cross-read x, toZ-ofZ (f .sum-in))
 
 -- the code's sum
 abbrev moreOf : tie.After-mul-div2 → ℤ
 moreOf c =
-    toZ w64 (c .before .before .before .squared .result) +ℤ toZ w64 (ofZ w64 (c .mul-div2 .result))
+    toZ w64 (c .before .before .before .before .squared .result) +ℤ toZ w64 (ofZ w64 (c .mul-div2 .result))
 
 more-is :
     (c : tie.After-mul-div2)
     → moreOf c
-    ≡ intraVarianceFixed (c .before .before .before .before .args .d) (c .before .before .before .before .args .alpha)
+    ≡ intraVarianceFixed (c .before .before .before .before .before .args .d) (c .before .before .before .before .before .args .alpha)
 unfolding intraVarianceFixed
 more-is c =
-    let f = here (c .before .before .before .before) in
-    rw (toZ-pos w64 (cast-more (c .before) .sfits), linear-is (c .before .before .before), added-is c, toZ-ofZ (f .added-in))
+    let f = here (c .before .before .before .before .before) in
+    rw (toZ-pos w64 (cast-more (c .before .before) .sfits), linear-is (c .before .before .before .before), added-is c, toZ-ofZ (f .added-in))
 
 add-more : tie.Need-add-more
 add-more c =
-    let f = here (c .before .before .before .before) in
-    rw (toZ-pos w64 (cast-more (c .before) .sfits), linear-is (c .before .before .before), added-is c, toZ-ofZ (f .added-in)) (f .whole-in)
+    let f = here (c .before .before .before .before .before) in
+    rw (toZ-pos w64 (cast-more (c .before .before) .sfits), linear-is (c .before .before .before .before), added-is c, toZ-ofZ (f .added-in)) (f .whole-in)
 
 -- not below 0
 positive : (c : tie.Else2) → dn (moreOf (c .before)) ≡ 0
@@ -164,6 +172,7 @@ intra-variance-spec =
     returns
     mul-div-requires
     cast-more
+    cross-at-requires
     cast-mul-div
     add-mul-div
     mul-div-requires-2

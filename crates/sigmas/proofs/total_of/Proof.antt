@@ -1,18 +1,18 @@
 -- The known root is that of s² + t². Assumes nothing.
-use Prim.Native.Nat.{_≤_, _+_}
-use mathlib.Core.Path.{_≡_, ap}
+use borrow.Author.Needs.{needs}
+use Prim.Native.Nat.{_+_, _≤_}
+use mathlib.Core.Path.{sym, ap, ap₂, _∙_}
 use native.Mathlib.Omega.{arith}
 use native.Mathlib.Nat.{mul-le-mul}
-use borrow.Author.Needs.{needs}
-use Rattle.model.specs.Fixed.{squaredFixed}
+use Rattle.tables.proofs.RowsRead.{of-deviations}
+use Rattle.model.specs.Fixed.{squaredFixed, sigmaOf}
 use Rattle.model.proofs.Fair.{Spread, spread-of}
-use Rattle.sigmas.specs.declared.Settled.{Settled}
-use Rattle.sigmas.specs.Settling.{linearTotal, settledOf}
+use Rattle.sigmas.specs.Linear.{linearTotal}
 use Rattle.sigmas.proofs.total_of.Statement.{statement}
 use Rattle.sigmas.proofs.total_of.Tie as tie
 
 small : (c : tie.Start) → Spread (c .args .d)
-small c = spread-of (c .args .d) (c .pre .0)
+small c = spread-of (c .args .d) (of-deviations (c .args .i) (c .args .d) (c .pre .0) (c .pre .1))
 
 squared-requires : tie.Need-squared-requires
 squared-requires c κs = omega (arith, small c)
@@ -20,32 +20,47 @@ squared-requires c κs = omega (arith, small c)
 squared-requires-2 : tie.Need-squared-requires-2
 squared-requires-2 c κs = omega (arith, small (c .before))
 
-squares : (c : tie.Start) → squaredFixed (c .args .d .s) + squaredFixed (c .args .d .t) ≤ 740000000
+squares :
+    (c : tie.Start)
+    → squaredFixed (c .args .d .s) + squaredFixed (c .args .d .t) ≤ 740000000
 squares c =
     let f = small c in
     omega (arith, mul-le-mul (f .s-high) (f .s-high), mul-le-mul (f .t-high) (f .t-high))
 
-add-sigma-or : tie.Need-add-sigma-or
-add-sigma-or c =
+add-if1 : tie.Need-add-if1
+add-if1 c =
     let s = c .before .before in
     record { fits = omega (arith, c .squared2 .ensures, c .before .squared .ensures, squares s) }
 
-cast-sigma-or : tie.Need-cast-sigma-or
-cast-sigma-or c = search needs
+linear-total-at-requires : tie.Need-linear-total-at-requires
+linear-total-at-requires c κs = search needs
 
-known : (c : tie.Start) → c .args .f .total ≡ linearTotal (c .args .d)
-unfolding settledOf
-known c = ap (λ (f : Settled). f .total) (c .pre .1)
-
-sigma-or-requires : tie.Need-sigma-or-requires
-unfolding linearTotal
-sigma-or-requires c κs =
-    let t = c .before in
-    let s = t .before .before in
-    (rw (t .squared2 .ensures, t .before .squared .ensures) (known s), s .pre .2)
+cast-result : tie.Need-cast-result
+cast-result c = search needs
 
 returns : tie.Need-returns
-returns c = search needs
+unfolding linearTotal
+returns c =
+    let f = c .before in
+    let t = f .before in
+    let s = t .before .before in
+    c .linear-total-at .ensures ∙ ap linearTotal (sym (s .pre .1)) ∙ ap sigmaOf (sym (f .if1 .taken ∙ ap₂ _+_ (t .before .squared .ensures) (t .squared2 .ensures)))
+
+sigma-of-requires : tie.Need-sigma-of-requires
+sigma-of-requires c κs = c .before .before .before .pre .2
+
+returns-2 : tie.Need-returns-2
+returns-2 c = c .sigma-of .ensures
 
 pub total-of-spec : {M : Type 1} → statement M
-total-of-spec = tie.close (tie.spec squared-requires squared-requires-2 add-sigma-or cast-sigma-or sigma-or-requires returns)
+total-of-spec =
+    tie.close
+    (tie.spec
+    squared-requires
+    squared-requires-2
+    add-if1
+    linear-total-at-requires
+    cast-result
+    returns
+    sigma-of-requires
+    returns-2)
