@@ -147,7 +147,7 @@ MORE = [
     ("specs", "crates/text/specs/*.antt", EVERY, "text"),
     ("specs", "crates/lines/specs/*.antt", EVERY, "lines"),
     ("specs", "crates/prediction/specs/*.antt", of("rowsFrom rowsOf spectrumFor"), "prediction"),
-    ("specs", "crates/prediction/specs/*.antt", of("refusalIn"), "export"),
+    ("specs", "crates/prediction/specs/*.antt", of("refusalIn"), "one_measure"),
     ("specs", "crates/answer/specs/*.antt", of("spectrumLines"), "answer"),
     ("specs", "crates/lists/specs/*.antt", EVERY, "lists"),
     ("specs", "crates/kept/specs/*.antt", EVERY, "kept"),

@@ -8,10 +8,7 @@ use lib.ListN.{length}
 use lib.Ieee.{Float}
 use Rattle.prediction.specs.declared.floats.FloatRow.{FloatRow}
 use Rattle.prediction.specs.declared.floats.FloatSpectrum.{FloatSpectrum}
-use Rattle.prediction.specs.declared.measure.OneMeasure.{OneMeasure}
-use Rattle.prediction.specs.declared.measure.OneMeasure.the-variants as M
 use Rattle.prediction.specs.Floats.{floatSpectrumOf}
-use Rattle.prediction.specs.Measures.{measureOf, refusalIn, medianIn, sigmaIn}
 use Rattle.row_numbers.specs.RowNumbers.{rowNumbers}
 use Rattle.lent.specs.Lent as Lent
 use Rattle.lent.specs.Lent.{countOf, wrote, after}
@@ -25,19 +22,6 @@ use Rattle.text.specs.Grammar.{numberOf}
 pub record LineGiven (b s : List ℕ) (n : ℕ) (b₁ : List ℕ) : Type 0 where
   pub count : n ≡ countOf (wrote (length b) s)
   pub bytes : b₁ ≡ after b s
-
--- ---- one measure
--- that of a line: a malformed one is refused
-unfoldable pub measureAnswer : Line → ℕ → OneMeasure
-unfolding measureOf
-measureAnswer (L.Is r) k = measureOf r k
-measureAnswer L.Malformed k = M.Refused (numberOf L.Malformed)
-
--- what is promised of the answer a: the number n, and what the lent numbers y and s became
-pub record MeasureGiven (a : OneMeasure) (n : ℕ) (y y₁ s s₁ : Float) : Type 0 where
-  pub refusal : n ≡ refusalIn a
-  pub median : y₁ ≡ medianIn a y
-  pub total : s₁ ≡ sigmaIn a s
 
 -- ---- a spectrum
 -- that of a line: a malformed one is refused, and has no rows

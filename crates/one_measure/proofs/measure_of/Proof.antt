@@ -1,8 +1,8 @@
 -- A malformed line is refused; of any other the request's answer is given. Assumes nothing.
 use borrow.Author.Needs.{needs}
-use Rattle.export.specs.Given.{measureAnswer}
-use Rattle.export.proofs.measure_of.Statement.{statement}
-use Rattle.export.proofs.measure_of.Tie as tie
+use Rattle.one_measure.specs.OneMeasures.{measureAnswer}
+use Rattle.one_measure.proofs.measure_of.Statement.{statement}
+use Rattle.one_measure.proofs.measure_of.Tie as tie
 
 read-line-requires : tie.Need-read-line-requires
 read-line-requires c κs = search needs

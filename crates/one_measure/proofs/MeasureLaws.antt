@@ -1,4 +1,5 @@
--- What each answer for one measure leaves in the lent numbers; 0 is no refusal's number. Assumes nothing.
+-- What each answer for one measure leaves in the lent numbers; any two outcomes that the contract permits are equal; and 0 is no
+-- refusal's number. Assumes nothing.
 use Prim.Native.Nat.{ℕ}
 use mathlib.Core.Path.{_≡_, refl, sym, ap, subst, _∙_}
 use mathlib.Core.Bool.{Bool, true, false}
@@ -13,6 +14,7 @@ use Rattle.outcome.specs.declared.Completed.{Completed}
 use Rattle.outcome.specs.declared.Completion.the-variants as C
 use Rattle.outcome.specs.Answers.{completionOf, numberOf}
 use Rattle.outcome.proofs.ExactlyWhen.{number-is, accepted-by}
+use Rattle.outcome.proofs.OneAnswer.{one-answer}
 use Rattle.model.specs.Fixed.{rowFixed}
 use Rattle.model.specs.Rows.{shownOf}
 use Rattle.text.specs.declared.read.Line.{Line}
@@ -24,7 +26,7 @@ use Rattle.prediction.specs.Measures.{measureOf, refusalIn, medianIn, sigmaIn}
 use Rattle.prediction.proofs.RowLaws.{by-completion}
 use Rattle.prediction.proofs.MeasureLaws.{measure-none, measure-fixed, no-value}
 use Rattle.prediction.proofs.MeasureLaws as P
-use Rattle.export.specs.Given.{measureAnswer, MeasureGiven}
+use Rattle.one_measure.specs.OneMeasures.{measureAnswer, MeasureGiven}
 
 module _ (y s : Float) where
   value-given : (m t : Float) → MeasureGiven (M.Value m t) 0 y m s t
@@ -41,6 +43,12 @@ module _ (y s : Float) where
 
     pub measure-refused : (n : ℕ) → a ≡ M.Refused n → MeasureGiven a n y y s s
     measure-refused n e = subst (λ (b : OneMeasure). MeasureGiven b n y y s s) (sym e) (refusal-given n)
+
+-- ---- one possible outcome
+pub one-measure :
+    {a : OneMeasure} {m n : ℕ} {y s y₁ y₂ s₁ s₂ : Float} → MeasureGiven a m y y₁ s s₁ → MeasureGiven a n y y₂ s s₂
+    → (m ≡ n) × (y₁ ≡ y₂) × (s₁ ≡ s₂)
+one-measure v w = (one-answer (v .refusal) (w .refusal), one-answer (v .median) (w .median), one-answer (v .total) (w .total))
 
 -- ---- 0 stands for no refusal
 same-number : (m n : ℕ) → M.Refused m ≡ M.Refused n → m ≡ n

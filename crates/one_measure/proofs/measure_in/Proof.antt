@@ -3,10 +3,10 @@ use borrow.Author.Needs.{needs}
 use mathlib.Core.Path.{sym, _∙_}
 use denote.Ref.{now}
 use Rattle.text.specs.Grammar.{lineOf}
-use Rattle.export.specs.Given.{measureAnswer}
-use Rattle.export.proofs.MeasureLaws.{measure-given, measure-refused}
-use Rattle.export.proofs.xanhupive_measure.Statement.{statement}
-use Rattle.export.proofs.xanhupive_measure.Tie as tie
+use Rattle.one_measure.specs.OneMeasures.{measureAnswer}
+use Rattle.one_measure.proofs.MeasureLaws.{measure-given, measure-refused}
+use Rattle.one_measure.proofs.measure_in.Statement.{statement}
+use Rattle.one_measure.proofs.measure_in.Tie as tie
 
 measure-of-requires : tie.Need-measure-of-requires
 measure-of-requires c κs = search needs
@@ -33,6 +33,6 @@ returns-2 c =
     measure-refused (now (a .median)) (now (a .total)) (measureAnswer (lineOf (now (a .line))) (a .measure)) (v .n .given .0 .0)
     (sym (m .measure-of .ensures) ∙ v .n .given .1)
 
-pub xanhupive-measure-spec : {M : Type 1} → statement M
-xanhupive-measure-spec =
+pub measure-in-spec : {M : Type 1} → statement M
+measure-in-spec =
     tie.close (tie.spec measure-of-requires enum-known-y enum-known-n returns returns-2)
