@@ -1,5 +1,5 @@
 /* What the tests in C share: what holds and what does not, counted; pages behind which nothing may be
- * touched; marks. To be included first. */
+ * touched; marks. What not every test uses is inline. To be included first. */
 #ifndef XANHUPIVE_CHECKS_H
 #define XANHUPIVE_CHECKS_H
 
@@ -33,7 +33,7 @@ static int counted(const char *test)
 }
 
 /* The end of a readable page, behind which nothing may be touched. */
-static uint8_t *page_end(void)
+static inline uint8_t *page_end(void)
 {
     size_t page = (size_t)sysconf(_SC_PAGESIZE);
     uint8_t *at = mmap(NULL, 2 * page, PROT_READ | PROT_WRITE, MAP_PRIVATE | MAP_ANONYMOUS, -1, 0);
@@ -44,7 +44,7 @@ static uint8_t *page_end(void)
     return at + page;
 }
 
-static int all_are(const uint8_t *from, const uint8_t *to, uint8_t value)
+static inline int all_are(const uint8_t *from, const uint8_t *to, uint8_t value)
 {
     while (from < to && *from == value) {
         from++;

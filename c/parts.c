@@ -11,6 +11,7 @@
 #include <stdlib.h>
 #include <string.h>
 
+#include "list.h"
 #include "xanhupive.h"
 
 /* What stands in lent bytes and numbers before a call, and how many such bytes before them. */
@@ -228,27 +229,6 @@ static struct told offered(const struct offer *offer, const size_t *rooms, size_
 
 /* ---- a list from standard input ---- */
 
-/* All of standard input. */
-static uint8_t *read_list(size_t *length)
-{
-    size_t room = 65536;
-    uint8_t *list = malloc(room);
-    size_t count;
-    *length = 0;
-    while (list != NULL && (count = fread(list + *length, 1, room - *length, stdin)) > 0) {
-        *length += count;
-        if (*length == room) {
-            room *= 2;
-            list = realloc(list, room);
-        }
-    }
-    if (list == NULL || ferror(stdin)) {
-        fputs("parts: standard input cannot be read\n", stderr);
-        exit(1);
-    }
-    return list;
-}
-
 /* Offers with two drawn rooms and then with one for the longest answer, and writes what was answered. */
 static size_t answered(const struct offer *offer)
 {
@@ -267,7 +247,7 @@ static size_t answered(const struct offer *offer)
 static int answer_list(uint64_t sheet)
 {
     size_t length;
-    uint8_t *list = read_list(&length);
+    uint8_t *list = read_list("parts", &length);
     size_t at = 0;
     xanhupive_reader_begin(reader, XANHUPIVE_READER);
     while (at < length) {

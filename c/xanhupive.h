@@ -73,6 +73,28 @@ extern "C" {
 #define XANHUPIVE_MISUSE 255
 
 /*
+ * Bytes of stack that a call of each function uses at most, below its caller's stack pointer and with its return
+ * address, in libexport.a on x86-64.
+ *
+ * They are not proved, since the proof is about a machine without a stack. bench/stack.py takes them from the machine
+ * code, the deepest way through it, without what memcpy and memset use; it says what it takes from the source. c/stack
+ * measures them, that counted too, by painting a stack and calling with some 27000 lines of every kind: no call goes
+ * deeper.
+ *
+ * They grow neither with a list nor with the length of a line. What calls itself does so a fixed number of times at
+ * most: the square root, by quarters of its number, stands on the stack 33 times, the series of the sine 8 times, the
+ * digits of a number 20 times.
+ */
+#define XANHUPIVE_STACK_COMPLETE_LINE 5968
+#define XANHUPIVE_STACK_PREDICT_LINE 12512
+#define XANHUPIVE_STACK_MEASURE 8736
+#define XANHUPIVE_STACK_SPECTRUM 12784
+#define XANHUPIVE_STACK_PERIOD 9360
+#define XANHUPIVE_STACK_READER_BEGIN 16
+#define XANHUPIVE_STACK_TAKE_PART 12800
+#define XANHUPIVE_STACK_CLOSE 144
+
+/*
  * The completing program's answer: "ok", the five figures and their letters, or "no" and the refusal's
  * number, with its LF and no NUL.
  *
