@@ -1,12 +1,14 @@
 // What Table 3 alone fixes of each measure, so that no request spends a root on it. Every number is held to
 // the table by a computed test.
 ghost use mathlib.Core.Path.{_≡_};
-ghost use Rattle.tables.specs.Tables.{deviationsAt};
+ghost use Prim.Native.Nat.{_<_};
+ghost use Rattle.tables.specs.Tables.{measures, deviationsAt};
 ghost use Rattle.model.specs.Fixed.{crossFixed};
 ghost use Rattle.sigmas.specs.Linear.{linearTotal, linearArbitrary};
 
 // 2 rho sigma_lnYB, in units of 10^-9.
 pub fn cross_at(i: usize) -> u32
+    requires { ⌜ i < measures ⌝ }
     ensures { λ r. ⌜ r ≡ crossFixed (deviationsAt i) ⌝ }
 {
     match i {
@@ -33,13 +35,13 @@ pub fn cross_at(i: usize) -> u32
         20 => 207_312_511, // 10.0 s
         21 => 744_268_768, // PGA
         22 => 524_898_081, // PGV
-        23 => 207_312_511, // PGD
-        _ => 0, // no measure
+        _ => 207_312_511, // PGD
     }
 }
 
 // The total sigma (16) of a linear site, in millionths.
 pub fn linear_total_at(i: usize) -> u32
+    requires { ⌜ i < measures ⌝ }
     ensures { λ r. ⌜ r ≡ linearTotal (deviationsAt i) ⌝ }
 {
     match i {
@@ -66,13 +68,13 @@ pub fn linear_total_at(i: usize) -> u32
         20 => 824_690, // 10.0 s
         21 => 525_780, // PGA
         22 => 524_848, // PGV
-        23 => 824_690, // PGD
-        _ => 0, // no measure
+        _ => 824_690, // PGD
     }
 }
 
 // Its arbitrary component's (18).
 pub fn linear_arbitrary_at(i: usize) -> u32
+    requires { ⌜ i < measures ⌝ }
     ensures { λ r. ⌜ r ≡ linearArbitrary (deviationsAt i) ⌝ }
 {
     match i {
@@ -99,7 +101,6 @@ pub fn linear_arbitrary_at(i: usize) -> u32
         20 => 874_193, // 10.0 s
         21 => 551_363, // PGA
         22 => 558_180, // PGV
-        23 => 874_193, // PGD
-        _ => 0, // no measure
+        _ => 874_193, // PGD
     }
 }

@@ -1,5 +1,5 @@
--- What the arms of a `match` on 0, 1, 2 .. are told: each its number, the last that it is none of them. Assumes nothing.
-use Prim.Native.Nat.{ℕ, zero, suc, _≤_}
+-- What the arms of a `match` on 0, 1, 2 .. are told: each its number, and the last that it is none of those before. Assumes nothing.
+use Prim.Native.Nat.{ℕ, zero, suc, _≤_, _<_}
 use mathlib.Core.Path.{_≡_, sym, ap}
 use native.Mathlib.Omega.{arith}
 
@@ -13,6 +13,10 @@ NoneOf zero i = Unit
 NoneOf (suc n) i = NoneOf n i × (i ≡ n → ⊥)
 
 -- so it lies behind them
-pub past : (n i : ℕ) → NoneOf n i → n ≤ i
+past : (n i : ℕ) → NoneOf n i → n ≤ i
 past zero i h = omega arith
 past (suc n) i h = omega (arith, past n i (h .0), h .1)
+
+-- and is n, where there are no more than that
+pub last : (n i : ℕ) → NoneOf n i → i < suc n → i ≡ n
+last n i h k = omega (arith, past n i h, k)

@@ -1,9 +1,12 @@
 // The periods of Campbell and Bozorgnia 2008.
 ghost use mathlib.Core.Path.{_≡_};
-ghost use Rattle.tables.specs.Tables.{periodAt};
+ghost use Prim.Native.Nat.{_<_};
+ghost use lib.ListN.{length};
+ghost use Rattle.tables.specs.Tables.{periods, periodAt};
 
 // The period of a measure from 0 to 20, in thousandths of a second.
 pub fn period_at(i: usize) -> u64
+    requires { ⌜ i < length periods ⌝ }
     ensures { λ r. ⌜ r ≡ periodAt i ⌝ }
 {
     match i {
@@ -27,7 +30,6 @@ pub fn period_at(i: usize) -> u64
         17 => 4_000,
         18 => 5_000,
         19 => 7_500,
-        20 => 10_000,
-        _ => 0, // none
+        _ => 10_000,
     }
 }

@@ -1,11 +1,13 @@
 // Table 2 of Campbell and Bozorgnia 2008: the coefficients of the median.
 use crate::Coefficients;
 ghost use mathlib.Core.Path.{_≡_};
-ghost use Rattle.tables.specs.Tables.{coefficientsAt};
+ghost use Prim.Native.Nat.{_<_};
+ghost use Rattle.tables.specs.Tables.{measures, coefficientsAt};
 
 // The row of a measure: the 21 periods, PGA, PGV, PGD. A row by its number, since the compiler keeps such
 // a choice as constants, where it would build an array anew for each call.
 pub fn coefficients_at(i: usize) -> Coefficients
+    requires { ⌜ i < measures ⌝ }
     ensures { λ r. ⌜ r ≡ coefficientsAt i ⌝ }
 {
     match i {
@@ -447,7 +449,7 @@ pub fn coefficients_at(i: usize) -> Coefficients
             k3: 1929,
         },
         // PGD
-        23 => Coefficients {
+        _ => Coefficients {
             c0: -5270,
             c1: 1600,
             c2: -70,
@@ -464,25 +466,6 @@ pub fn coefficients_at(i: usize) -> Coefficients
             k1: 400,
             k2: 0,
             k3: 2744,
-        },
-        // no measure
-        _ => Coefficients {
-            c0: 0,
-            c1: 0,
-            c2: 0,
-            c3: 0,
-            c4: 0,
-            c5: 0,
-            c6: 0,
-            c7: 0,
-            c8: 0,
-            c9: 0,
-            c10: 0,
-            c11: 0,
-            c12: 0,
-            k1: 0,
-            k2: 0,
-            k3: 0,
         },
     }
 }

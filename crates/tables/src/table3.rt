@@ -1,10 +1,12 @@
 // Table 3 of Campbell and Bozorgnia 2008: the standard deviations and the correlation.
 use crate::Deviations;
 ghost use mathlib.Core.Path.{_≡_};
-ghost use Rattle.tables.specs.Tables.{deviationsAt};
+ghost use Prim.Native.Nat.{_<_};
+ghost use Rattle.tables.specs.Tables.{measures, deviationsAt};
 
 // The row of a measure, as in Table 2.
 pub fn deviations_at(i: usize) -> Deviations
+    requires { ⌜ i < measures ⌝ }
     ensures { λ r. ⌜ r ≡ deviationsAt i ⌝ }
 {
     match i {
@@ -216,22 +218,13 @@ pub fn deviations_at(i: usize) -> Deviations
             rho: 691,
         },
         // PGD
-        23 => Deviations {
+        _ => Deviations {
             s: 667,
             t: 485,
             sC: 290,
             sT: 825,
             sArb: 874,
             rho: 174,
-        },
-        // no measure
-        _ => Deviations {
-            s: 0,
-            t: 0,
-            sC: 0,
-            sT: 0,
-            sArb: 0,
-            rho: 0,
         },
     }
 }

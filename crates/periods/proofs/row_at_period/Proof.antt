@@ -41,7 +41,7 @@ last-up-to-requires : tie.Need-last-up-to-requires
 last-up-to-requires c κs = search needs
 
 period-at-requires : tie.Need-period-at-requires
-period-at-requires c κs = search needs
+period-at-requires c κs = found c .below
 
 row-at-requires : tie.Need-row-at-requires
 row-at-requires c κs =
@@ -60,7 +60,7 @@ add-period-at : tie.Need-add-period-at
 add-period-at c = record { fits = omega (arith, first c) }
 
 period-at-requires-2 : tie.Need-period-at-requires-2
-period-at-requires-2 c κs = search needs
+period-at-requires-2 c κs = let h = found (c .before .before) .next-below (apart c) in omega (arith, h)
 
 weight-of-requires : tie.Need-weight-of-requires
 weight-of-requires c κs =

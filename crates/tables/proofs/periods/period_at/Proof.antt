@@ -1,8 +1,6 @@
--- Each arm has the numbers of the specs' row, which is computed number by number; the last is behind them all. Assumes nothing.
-use mathlib.Core.Path.{sym}
-use lib.ListN.{List·getD-eq-default}
-use Rattle.tables.specs.Tables.{periods, periodAt}
-use Rattle.tables.proofs.Arms.{at-key, past}
+-- Each arm has the numbers of the specs' row, which is computed number by number. Assumes nothing.
+use Rattle.tables.specs.Tables.{periodAt}
+use Rattle.tables.proofs.Arms.{at-key, last}
 use Rattle.tables.proofs.periods.period_at.Statement.{statement}
 use Rattle.tables.proofs.periods.period_at.Tie as tie
 
@@ -30,5 +28,4 @@ period-at-spec =
     (λ c. at-key periodAt (c .match .keys18))
     (λ c. at-key periodAt (c .match .keys19))
     (λ c. at-key periodAt (c .match .keys20))
-    (λ c. at-key periodAt (c .match .keys21))
-    (λ c. sym (List·getD-eq-default periods 0 (past 21 (c .before .args .i) (c .match .rest)))))
+    (λ c. at-key periodAt (last 20 (c .before .args .i) (c .match .rest) (c .before .pre))))

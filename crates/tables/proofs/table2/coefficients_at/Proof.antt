@@ -1,8 +1,6 @@
--- Each arm has the numbers of the specs' row, which is computed number by number; the last is behind them all. Assumes nothing.
-use mathlib.Core.Path.{sym}
-use lib.ListN.{List·getD-eq-default}
-use Rattle.tables.specs.Tables.{table2, noCoefficients, coefficientsAt}
-use Rattle.tables.proofs.Arms.{at-key, past}
+-- Each arm has the numbers of the specs' row, which is computed number by number. Assumes nothing.
+use Rattle.tables.specs.Tables.{table2, coefficientsAt}
+use Rattle.tables.proofs.Arms.{at-key, last}
 use Rattle.tables.proofs.table2.coefficients_at.Statement.{statement}
 use Rattle.tables.proofs.table2.coefficients_at.Tie as tie
 
@@ -34,5 +32,4 @@ coefficients-at-spec =
     (λ c. at-key coefficientsAt (c .match .keys21))
     (λ c. at-key coefficientsAt (c .match .keys22))
     (λ c. at-key coefficientsAt (c .match .keys23))
-    (λ c. at-key coefficientsAt (c .match .keys24))
-    (λ c. sym (List·getD-eq-default table2 noCoefficients (past 24 (c .before .args .i) (c .match .rest)))))
+    (λ c. at-key coefficientsAt (last 23 (c .before .args .i) (c .match .rest) (c .before .pre))))

@@ -1,8 +1,6 @@
--- Each arm has the numbers of the specs' row, which is computed number by number; the last is behind them all. Assumes nothing.
-use mathlib.Core.Path.{sym}
-use lib.ListN.{List·getD-eq-default}
-use Rattle.tables.specs.Tables.{table3, noDeviations, deviationsAt}
-use Rattle.tables.proofs.Arms.{at-key, past}
+-- Each arm has the numbers of the specs' row, which is computed number by number. Assumes nothing.
+use Rattle.tables.specs.Tables.{table3, deviationsAt}
+use Rattle.tables.proofs.Arms.{at-key, last}
 use Rattle.tables.proofs.table3.deviations_at.Statement.{statement}
 use Rattle.tables.proofs.table3.deviations_at.Tie as tie
 
@@ -34,5 +32,4 @@ deviations-at-spec =
     (λ c. at-key deviationsAt (c .match .keys21))
     (λ c. at-key deviationsAt (c .match .keys22))
     (λ c. at-key deviationsAt (c .match .keys23))
-    (λ c. at-key deviationsAt (c .match .keys24))
-    (λ c. sym (List·getD-eq-default table3 noDeviations (past 24 (c .before .args .i) (c .match .rest)))))
+    (λ c. at-key deviationsAt (last 23 (c .before .args .i) (c .match .rest) (c .before .pre))))
