@@ -33,6 +33,7 @@ ghost use Rattle.model.specs.Fixed.{rockPGAFixed, lnMedianAtFixed, ownFixed, fi
 ghost use Rattle.factors.specs.Factoring.{factorsOf};
 ghost use Rattle.terms.specs.Paths.{pathOf};
 ghost use Rattle.site.specs.Sharing.{rockOf, soilOf};
+ghost use Rattle.measures.specs.Order.{after};
 
 // The ln median of a row of Table 2 by itself, in units of 10^-9.
 fn ln_own(c: Coefficients, x: Scenario, f: Factors, path: Path, soil: Soil) -> i64
@@ -82,6 +83,14 @@ fn next_soil(last: Soil, c: Coefficients, x: Scenario, rock: Rock) -> Soil
     soil_of(c, x, rock)
 }
 
+// The next measure that is not PGA.
+fn next_of(k: usize) -> usize
+    requires { ⌜ k < measures ⌝ }
+    ensures { λ r. ⌜ r ≡ after k ⌝ }
+{
+    if k + 1 == PGA { PGA + 1 } else { k + 1 }
+}
+
 // The fine row of one measure. PGA's path comes first, since A1100 needs it; PGA's own row last, where the
 // period is short.
 pub fn fine_at(i: usize, x: Scenario) -> Fine
@@ -93,7 +102,7 @@ pub fn fine_at(i: usize, x: Scenario) -> Fine
     let f = factors_of(x);
     let path = path_of(pga, x);
     let rock = rock_of(pga, x, f, path);
-    let own = own_from(i, c, x, f, next_path(path, c, x), soil_of(c, x, rock));
+    let own = own_from(i, c, x, f, path_of(c, x), soil_of(c, x, rock));
     if !is_short(i) {
         return own;
     }
@@ -127,13 +136,11 @@ pub fn fine_rows_of(x: Scenario) -> [Fine; MEASURES]
     rows[PGA] = pga;
     let mut k = 0usize;
     while k < MEASURES {
-        if k != PGA {
-            let c = coefficients_at(k);
-            path = next_path(path, c, x);
-            soil = next_soil(soil, c, x, rock);
-            rows[k] = not_below_pga(k, own_from(k, c, x, f, path, soil), pga);
-        }
-        k += 1;
+        let c = coefficients_at(k);
+        path = next_path(path, c, x);
+        soil = next_soil(soil, c, x, rock);
+        rows[k] = not_below_pga(k, own_from(k, c, x, f, path, soil), pga);
+        k = next_of(k);
     }
     rows
 }

@@ -6,7 +6,6 @@ use lib.Dec.{lit<}
 use Rattle.tables.specs.Tables.{PGA}
 use Rattle.tables.proofs.RowsRead.{of-row, pga-row}
 use Rattle.model.proofs.ShortPeriods.{fine-long, fine-raised}
-use Rattle.measures.proofs.FilledRows.{path-again}
 use Rattle.measures.proofs.fine_at.Statement.{statement}
 use Rattle.measures.proofs.fine_at.Tie as tie
 
@@ -28,12 +27,11 @@ rock-of-requires c κs =
     let p = f .before in
     (p .coefficients-at2 .ensures, p .before .before .pre .1, f .factors-of .ensures, c .path-of .ensures)
 
-next-path-requires : tie.Need-next-path-requires
-next-path-requires c κs =
-    let p = c .before in
-    let m = p .before .before .before in
+path-of-requires-2 : tie.Need-path-of-requires-2
+path-of-requires-2 c κs =
+    let m = c .before .before .before .before in
     let s = m .before in
-    (of-row (s .args .i) _ (s .pre .0) (m .coefficients-at .ensures), s .pre .1, path-again (s .args .x) _ _ (p .path-of .ensures))
+    (of-row (s .args .i) _ (s .pre .0) (m .coefficients-at .ensures), s .pre .1)
 
 soil-of-requires : tie.Need-soil-of-requires
 soil-of-requires c κs =
@@ -48,7 +46,7 @@ own-from-requires c κs =
     let f = n .before .before .before in
     let m = f .before .before in
     let s = m .before in
-    (s .pre .0, m .coefficients-at .ensures, s .pre .1, f .factors-of .ensures, n .next-path .ensures, c .soil-of .ensures)
+    (s .pre .0, m .coefficients-at .ensures, s .pre .1, f .factors-of .ensures, n .path-of2 .ensures, c .soil-of .ensures)
 
 is-short-requires : tie.Need-is-short-requires
 is-short-requires c κs = search needs
@@ -94,7 +92,7 @@ fine-at-spec =
     factors-of-requires
     path-of-requires
     rock-of-requires
-    next-path-requires
+    path-of-requires-2
     soil-of-requires
     own-from-requires
     is-short-requires

@@ -4,7 +4,6 @@ use borrow.Author.Needs.{needs}
 use Prim.Native.Nat.{ℕ, _+_, _-_, _≤_, _<_}
 use mathlib.Core.Path.{_≡_, refl, sym, subst, _∙_}
 use mathlib.Core.List.{List}
-use mathlib.Core.Logic.{⊎-elim}
 use native.Mathlib.Omega.{arith}
 use lib.Dec.{lit<}
 use Rattle.model.specs.declared.Scenario.{Scenario}
@@ -16,23 +15,16 @@ use Rattle.tables.proofs.RowsRead.{of-row, pga-row}
 use Rattle.model.proofs.ShortPeriods.{fine-pga, fine-raised}
 use Rattle.terms.specs.Paths.{pathOf}
 use Rattle.site.specs.Sharing.{soilOf}
-use Rattle.measures.proofs.FilledRows.{Filled, set-filled, pass-filled, path-again, soil-again}
+use Rattle.measures.proofs.FilledRows.{Filled, next-filled, after-more, after-end, after-other, path-again, soil-again}
 use Rattle.measures.proofs.fine_rows_of.Statement.{statement}
 use Rattle.measures.proofs.fine_rows_of.Tie as tie
 
 record Turn (x : Scenario) (rows : List Fine) (path : Path) (soil : Soil) (k : ℕ) : Type 0 where
   filled : Filled x rows k
+  other : k ≡ PGA → ⊥
   path-is : path ≡ pathOf (path .c6) x
   soil-is : soil ≡ soilOf (soil .k1) x
   end : k ≤ 24
-
--- at equal values
-same-turn :
-    (x : Scenario) (k : ℕ) {rows rows' : List Fine} {path path' : Path} {soil soil' : Soil} → rows ≡ rows' → path ≡ path' → soil ≡ soil'
-    → Turn x rows' path' soil' k → Turn x rows path soil k
-same-turn x k {rows} {rows'} {path} {path'} {soil} {soil'} e f g t =
-    subst (λ (r : List Fine). Turn x r path soil k) (sym e)
-    (subst (λ (p : Path). Turn x rows' p soil k) (sym f) (subst (λ (s : Soil). Turn x rows' path' s k) (sym g) t))
 
 abbrev Inv-loop : tie.InvT-loop
 Inv-loop x rows₀ f path₀ rock soil₀ pga k₀ rows path soil k = Turn x rows path soil k
@@ -74,6 +66,7 @@ loop-holds c =
     let x = c .before .before .before .before .before .before .args .x in
     record {
       filled = record { whole = refl; pga = fine-pga x (c .own-from .ensures); below = λ j l. absurd (omega (arith, l)) };
+      other = λ e. omega (arith, e);
       path-is = path-again x _ _ (c .before .before .before .path-of .ensures);
       soil-is = soil-again x _ _ (c .before .soil-of .ensures);
       end = omega arith;
@@ -85,14 +78,14 @@ coefficients-at-requires-2 c κs = search needs
 
 next-path-requires : tie.Need-next-path-requires Inv-loop μ-loop
 next-path-requires c κs =
-    let l = c .before .before in
+    let l = c .before in
     let s = l .before .before .before .before .before .before .before .before in
     (of-row (l .before .loop .k) _ (l .loop-test .taken) (c .coefficients-at2 .ensures), s .pre, l .before .loop .inv .path-is)
 
 next-soil-requires : tie.Need-next-soil-requires Inv-loop μ-loop
 next-soil-requires c κs =
     let m = c .before in
-    let l = m .before .before in
+    let l = m .before in
     let r = l .before .before .before .before in
     let s = r .before .before .before .before in
     (of-row (l .before .loop .k) _ (l .loop-test .taken) (m .coefficients-at2 .ensures), s .pre, r .rock-of .ensures, l .before .loop .inv .soil-is)
@@ -100,7 +93,7 @@ next-soil-requires c κs =
 own-from-requires-2 : tie.Need-own-from-requires-2 Inv-loop μ-loop
 own-from-requires-2 c κs =
     let m = c .before .before in
-    let l = m .before .before in
+    let l = m .before in
     let f = l .before .before .before .before .before .before in
     (l .loop-test .taken, m .coefficients-at2 .ensures, f .before .before .pre, f .factors-of .ensures, c .before .next-path .ensures, c .next-soil .ensures)
 
@@ -111,42 +104,39 @@ mul-rows : tie.Need-mul-rows Inv-loop μ-loop
 mul-rows c = search needs
 
 array-set-from-rows-2 : tie.Need-array-set-from-rows-2 Inv-loop μ-loop
-array-set-from-rows-2 c = c .before .before .before .before .before .before .loop-test .taken
+array-set-from-rows-2 c = c .before .before .before .before .before .loop-test .taken
 
-add-k : tie.Need-add-k Inv-loop μ-loop
-add-k c = search needs
+next-of-requires : tie.Need-next-of-requires Inv-loop μ-loop
+next-of-requires c κs = c .before .before .before .before .before .loop-test .taken
 
 loop-less : tie.Need-loop-less Inv-loop μ-loop
-loop-less c = omega (arith, c .before .loop-test .taken)
+loop-less c =
+    let i = c .before .before .before .before .before .before in
+    omega (arith, c .next-of .ensures, after-more (i .before .loop .k), i .loop-test .taken)
 
 loop-again : tie.Need-loop-again Inv-loop μ-loop
 loop-again c =
-    let t = c .before in
-    let l = t .before in
-    let p = l .before in
-    let x = p .before .before .before .before .before .before .args .x in
+    let b = c .before in
+    let o = b .before in
+    let n = o .before in
+    let p = n .before in
+    let i = p .before .before in
+    let l = i .before in
+    let g = l .before in
+    let x = g .before .before .before .before .before .before .args .x in
     let k = l .loop .k in
-    ⊎-elim
-    (λ w.
-    same-turn x (k + 1) (w .6) (w .7) (w .8)
+    let t = i .loop-test .taken in
+    subst (Turn x _ _ _) (sym (c .next-of .ensures))
     (record {
       filled =
-          set-filled x (l .loop .rows) k _ (t .loop-test .taken) (w .0 .taken)
-          (w .5 .ensures ∙ fine-raised k x (w .4 .ensures) (p .own-from .ensures))
+          next-filled x (l .loop .rows) k _ t (l .loop .inv .other)
+          (b .not-below-pga .ensures ∙ fine-raised k x (o .own-from2 .ensures) (g .own-from .ensures))
           (l .loop .inv .filled);
-      path-is = path-again x _ _ (w .2 .ensures);
-      soil-is = soil-again x _ _ (w .3 .ensures);
-      end = omega (arith, t .loop-test .taken);
-    }))
-    (λ w.
-    same-turn x (k + 1) (w .1) (w .2) (w .3)
-    (record {
-      filled = pass-filled x (l .loop .rows) k (w .0 .left) (l .loop .inv .filled);
-      path-is = l .loop .inv .path-is;
-      soil-is = l .loop .inv .soil-is;
-      end = omega (arith, t .loop-test .taken);
-    }))
-    (c .if1 .came)
+      other = after-other k;
+      path-is = path-again x _ _ (p .next-path .ensures);
+      soil-is = soil-again x _ _ (n .next-soil .ensures);
+      end = after-end k t;
+    })
 
 returns : tie.Need-returns Inv-loop μ-loop
 returns c =
@@ -174,7 +164,7 @@ fine-rows-of-spec =
     not-below-pga-requires
     mul-rows
     array-set-from-rows-2
-    add-k
+    next-of-requires
     loop-less
     loop-again
     returns)
