@@ -56,23 +56,21 @@ pub fn soil_of(c: Coefficients, x: Scenario, rock: Rock) -> Soil
     ensures { λ r. ⌜ r ≡ soilOf (c .k1) x ⌝ }
 {
     let k1 = c.k1 as u64;
-    if x.vs30 < k1 {
-        let ratio = ln_quotient(x.vs30, k1);
-        let curve = curve_of(ratio);
-        let gain = ln_fixed(rock.pga + curve) - rock.log;
-        let swing = share_of(rock.pga, curve) as i64 - rock.share as i64;
+    let ratio = ln_quotient(at_most_1100(x.vs30), k1);
+    if k1 <= x.vs30 {
         return Soil {
             k1: c.k1,
             ratio: ratio,
-            gain: gain,
-            swing: swing,
+            gain: 0,
+            swing: 0,
         };
     }
+    let curve = curve_of(ratio);
     Soil {
         k1: c.k1,
-        ratio: ln_quotient(at_most_1100(x.vs30), k1),
-        gain: 0,
-        swing: 0,
+        ratio: ratio,
+        gain: ln_fixed(rock.pga + curve) - rock.log,
+        swing: share_of(rock.pga, curve) as i64 - rock.share as i64,
     }
 }
 
@@ -82,18 +80,6 @@ fn linear_of(c: Coefficients) -> i64
     ensures { λ r. ⌜ r ≡ linear c ⌝ }
 {
     100 * c.c10 as i64 + N * c.k2 as i64
-}
-
-// The term at a Vs30 from k1 up, which reads no A1100.
-pub fn f_site_linear(c: Coefficients, v: u64) -> i64
-    requires { ⌜ OfTable2 c × (c .k1 ≤ v) × (v ≤ 1500) ⌝ }
-    ensures { λ r. ⌜ r ≡ fSiteFixed c v 0 ⌝ }
-{
-    mul_div(
-        linear_of(c),
-        ln_quotient(at_most_1100(v), c.k1 as u64),
-        100_000,
-    )
 }
 
 // The term at the site (11).

@@ -1,6 +1,5 @@
 // The rock's PGA, once for a request, with what is made of it.
 use crate::C;
-use crate::f_site_linear;
 use factors::Factors;
 use model::Scenario;
 use reckon::E9;
@@ -20,6 +19,10 @@ ghost use Rattle.site.specs.Sharing.{rockOf};
 
 // c, in units of 10^-9.
 const SITE_C: u64 = C * 10_000_000;
+
+// PGA's site term (11) at 1100 m/s, in units of 10^-9, which Table 2 alone fixes; held to it by a computed
+// test.
+const SITE_1100: i64 = -82_069_920;
 
 // A1100 is `pga`; with it ln(A1100 + c) and A1100/(A1100 + c).
 pub struct Rock {
@@ -41,7 +44,7 @@ fn rock_pga(c: Coefficients, x: Scenario, f: Factors, path: Path) -> u64
     requires { ⌜ (c ≡ coefficientsAt PGA) × InRange x × (f ≡ factorsOf x) × (path ≡ pathOf (c .c6) x) ⌝ }
     ensures { λ r. ⌜ r ≡ rockPGAFixed x ⌝ }
 {
-    exp_fixed(ln_sum(c, x, f, path, f_site_linear(c, 1_100))) / 10
+    exp_fixed(ln_sum(c, x, f, path, SITE_1100)) / 10
 }
 
 // All of them, from PGA's row of Table 2 and its path.

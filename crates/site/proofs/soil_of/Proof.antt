@@ -1,7 +1,8 @@
 -- Below k1 and from k1 up the soil is that of `SoilLaws`, each number of it small. Assumes nothing.
 use borrow.Author.Needs.{needs}
+use borrow.Author.Tests.{lt-ltb}
 use Prim.Native.Nat.{ℕ, _+_, _*_, _≤_, _<_}
-use mathlib.Core.Path.{_≡_, ap, _∙_}
+use mathlib.Core.Path.{_≡_, ap, ap₂, _∙_}
 use native.Mathlib.Omega.{arith}
 use lib.IntN.{pos, natAbs, _-ℤ_}
 use mir.Syntax.{w64}
@@ -26,7 +27,7 @@ use Rattle.site.proofs.SoilLaws.{soft-soil, hard-soil, share-le, swing-
 use Rattle.site.proofs.soil_of.Statement.{statement}
 use Rattle.site.proofs.soil_of.Tie as tie
 
--- ---- below k1
+-- ---- the numbers below k1
 record Soft (v k1 a : ℕ) : Type 0 where
   k1-low : 400 ≤ k1
   k1-high : k1 ≤ 1086
@@ -77,8 +78,17 @@ soft c x o r h =
       swing-fits = sfits-abs (pos (shareFixed a b) -ℤ pos (shareFixed a siteCFixed)) (omega (arith, swing-le _ _ share-b share-c));
     }
 
-soft-at : (c : tie.Then1) → Soft (c .before .before .before .args .x .vs30) (c .before .before .before .args .c .k1) (rockPGAFixed (c .before .before .before .args .x))
-soft-at c = let s = c .before .before .before in soft (s .args .c) (s .args .x) (s .pre .0) (s .pre .1) (c .if1 .taken)
+-- the places of a soft soil
+abbrev from-else : tie.Else1 → tie.After-ln-quotient
+from-else c = c .before .before
+
+abbrev start : tie.After-ln-quotient → tie.Start
+start c = c .before .before .before
+
+soft-at :
+    (c : tie.Else1)
+    → Soft (start (from-else c) .args .x .vs30) (start (from-else c) .args .c .k1) (rockPGAFixed (start (from-else c) .args .x))
+soft-at c = let s = start (from-else c) in soft (s .args .c) (s .args .x) (s .pre .0) (s .pre .1) (c .if1 .left)
 
 -- what is shared, field by field
 rock-is : (c : tie.Start) → c .args .rock .pga ≡ rockPGAFixed (c .args .x)
@@ -96,107 +106,121 @@ share-is c = ap (λ (s : Rock). s .share) (c .pre .2)
 cast-k1 : tie.Need-cast-k1
 cast-k1 c = search needs
 
+at-most-1100-requires : tie.Need-at-most-1100-requires
+at-most-1100-requires c κs = search needs
+
+hard : (c : tie.Start) → Paired (least (c .args .x .vs30) 1100) (c .args .c .k1)
+hard c = capped (c .args .c) (c .args .x .vs30) (fair-of (c .args .c) (c .pre .0)) (c .pre .1 .vs30-low) (c .pre .1 .vs30-high)
+
 ln-quotient-requires : tie.Need-ln-quotient-requires
 ln-quotient-requires c κs =
-    let f = soft-at c in
-    (omega (arith, f .k1-low), omega (arith, f .k1-high), omega (arith, f .k1-high, f .v-low), omega (arith, c .if1 .taken))
+    let p = hard (c .before .before) in
+    rw (c .at-most-1100 .ensures)
+    (omega (arith, p .k-low), omega (arith, p .k-high), omega (arith, p .k-high, p .v-low), omega (arith, p .v-high, p .k-low))
+
+-- ln(V/k1), of the smaller of V and 1100
+ratio-is : (c : tie.After-ln-quotient) → c .ln-quotient .result ≡ lnQuotient (least (start c .args .x .vs30) 1100) (start c .args .c .k1)
+ratio-is c = c .ln-quotient .ensures ∙ ap (λ (v : ℕ). lnQuotient v (start c .args .c .k1)) (c .before .at-most-1100 .ensures)
+
+-- ---- from k1 up
+returns : tie.Need-returns
+returns c =
+    let l = c .before .before in
+    let s = start l in
+    let q = quotient-size (least (s .args .x .vs30) 1100) (s .args .c .k1) (hard s) in
+    let n = sfits-abs (lnQuotient (least (s .args .x .vs30) 1100) (s .args .c .k1)) (omega (arith, q)) in
+    rw (hard-soil (s .args .c .k1) (s .args .x) (c .if1 .taken)) (simp (ratio-is l, toZ-ofZ n))
+
+-- ---- below k1, where V is the smaller
+soft-ratio : (c : tie.Else1) → from-else c .ln-quotient .result ≡ lnQuotient (start (from-else c) .args .x .vs30) (start (from-else c) .args .c .k1)
+soft-ratio c =
+    let l = from-else c in
+    let s = start l in
+    let v : ℕ = s .args .x .vs30 in
+    ratio-is l ∙ rw (least, lt-ltb v 1100 (omega (arith, c .if1 .left, soft-at c .k1-high)))
 
 curve-of-requires : tie.Need-curve-of-requires
 unfolding curveFixed
-curve-of-requires c κs =
-    let f = soft-at (c .before) in
-    simp (c .ln-quotient .ensures, toZ-ofZ (f .ratio-fits)) (f .ratio-small, f .curve-high)
+curve-of-requires c κs = let f = soft-at c in simp (soft-ratio c, toZ-ofZ (f .ratio-fits)) (f .ratio-small, f .curve-high)
 
 -- the curve's contract, in the definition's words
 curve-is :
     (c : tie.After-curve-of)
-    → c .curve-of .result ≡ curveFixed (c .before .before .before .before .before .args .x .vs30) (c .before .before .before .before .before .args .c .k1)
+    → c .curve-of .result ≡ curveFixed (start (from-else (c .before)) .args .x .vs30) (start (from-else (c .before)) .args .c .k1)
 unfolding curveFixed
-curve-is c =
-    let f = soft-at (c .before .before) in
-    simp (c .before .ln-quotient .ensures, toZ-ofZ (f .ratio-fits)) at (c .curve-of .ensures)
+curve-is c = let f = soft-at (c .before) in simp (soft-ratio (c .before), toZ-ofZ (f .ratio-fits)) at (c .curve-of .ensures)
 
 add-ln-fixed : tie.Need-add-ln-fixed
 add-ln-fixed c =
     let e = c .before in
-    let f = soft-at (e .before .before) in
-    let s = e .before .before .before .before .before in
-    rw (rock-is s, curve-is e) (record { fits = omega (arith, f .a-high, f .curve-high) })
+    let f = soft-at (e .before) in
+    rw (rock-is (start (from-else (e .before))), curve-is e) (record { fits = omega (arith, f .a-high, f .curve-high) })
 
 ln-fixed-requires : tie.Need-ln-fixed-requires
 ln-fixed-requires c κs =
     let e = c .before in
-    let f = soft-at (e .before .before) in
-    let s = e .before .before .before .before .before in
-    rw (rock-is s, curve-is e) (omega (arith, f .curve-low), omega (arith, f .a-high, f .curve-high))
+    let f = soft-at (e .before) in
+    rw (rock-is (start (from-else (e .before))), curve-is e) (omega (arith, f .curve-low), omega (arith, f .a-high, f .curve-high))
 
 -- the logarithm's contract, likewise
+abbrev of-curve : tie.After-curve-of → tie.Start
+of-curve c = start (from-else (c .before))
+
 ln-is :
     (c : tie.After-ln-fixed)
     → c .ln-fixed .result
-    ≡ lnFixed (rockPGAFixed (c .before .before .before .before .before .before .before .args .x)
-    + curveFixed (c .before .before .before .before .before .before .before .args .x .vs30) (c .before .before .before .before .before .before .before .args .c .k1))
+    ≡ lnFixed (rockPGAFixed (of-curve (c .before .before) .args .x)
+    + curveFixed (of-curve (c .before .before) .args .x .vs30) (of-curve (c .before .before) .args .c .k1))
 ln-is c =
     let e = c .before .before in
-    let s = e .before .before .before .before .before in
-    c .ln-fixed .ensures ∙ rw (rock-is s, curve-is e)
+    c .ln-fixed .ensures ∙ ap₂ (λ (a b : ℕ). lnFixed (a + b)) (rock-is (of-curve e)) (curve-is e)
 
-sub-gain : tie.Need-sub-gain
-sub-gain c =
+sub-t10 : tie.Need-sub-t10
+sub-t10 c =
     let l = c .before .before in
     let e = l .before .before in
-    let f = soft-at (e .before .before) in
-    let s = e .before .before .before .before .before in
-    simp (ln-is l, log-is s, toZ-ofZ (f .curve-log), toZ-ofZ (f .rock-log)) (f .gain-fits)
+    let f = soft-at (e .before) in
+    simp (ln-is l, log-is (of-curve e), toZ-ofZ (f .curve-log), toZ-ofZ (f .rock-log)) (f .gain-fits)
 
 share-of-requires : tie.Need-share-of-requires
 share-of-requires c κs =
     let e = c .before .before .before .before in
-    let f = soft-at (e .before .before) in
-    let s = e .before .before .before .before .before in
-    rw (rock-is s, curve-is e) (f .a-high, omega (arith, f .curve-low), f .curve-high)
+    let f = soft-at (e .before) in
+    rw (rock-is (of-curve e), curve-is e) (f .a-high, omega (arith, f .curve-low), f .curve-high)
+
+-- and the share's
+abbrev of-share : tie.After-share-of → tie.After-curve-of
+of-share c = c .before .before .before .before .before
 
 share-value :
     (c : tie.After-share-of)
     → c .share-of .result
-    ≡ shareFixed (rockPGAFixed (c .before .before .before .before .before .before .before .before .before .before .args .x))
-    (curveFixed (c .before .before .before .before .before .before .before .before .before .before .args .x .vs30)
-    (c .before .before .before .before .before .before .before .before .before .before .args .c .k1))
-share-value c =
-    let e = c .before .before .before .before .before in
-    let s = e .before .before .before .before .before in
-    c .share-of .ensures ∙ rw (rock-is s, curve-is e)
+    ≡ shareFixed (rockPGAFixed (of-curve (of-share c) .args .x))
+    (curveFixed (of-curve (of-share c) .args .x .vs30) (of-curve (of-share c) .args .c .k1))
+share-value c = let e = of-share c in c .share-of .ensures ∙ ap₂ shareFixed (rock-is (of-curve e)) (curve-is e)
 
-cast-swing : tie.Need-cast-swing
-cast-swing c =
-    let e = c .before .before .before .before .before in
-    let f = soft-at (e .before .before) in
-    rw (share-value c) (f .curve-share)
+cast-t12 : tie.Need-cast-t12
+cast-t12 c = rw (share-value c) (soft-at (of-share c .before) .curve-share)
 
-cast-swing-2 : tie.Need-cast-swing-2
-cast-swing-2 c =
-    let e = c .before .before .before .before .before .before in
-    let f = soft-at (e .before .before) in
-    let s = e .before .before .before .before .before in
-    rw (share-is s) (f .rock-share)
+cast-t13 : tie.Need-cast-t13
+cast-t13 c = let e = of-share (c .before) in rw (share-is (of-curve e)) (soft-at (e .before) .rock-share)
 
-sub-swing : tie.Need-sub-swing
-sub-swing c =
-    let e = c .before .before .before .before .before .before in
-    let f = soft-at (e .before .before) in
-    let s = e .before .before .before .before .before in
-    simp (share-value (c .before), share-is s, f .curve-bits, f .rock-bits) (f .swing-fits)
+sub-t14 : tie.Need-sub-t14
+sub-t14 c =
+    let e = of-share (c .before) in
+    let f = soft-at (e .before) in
+    simp (share-value (c .before), share-is (of-curve e), f .curve-bits, f .rock-bits) (f .swing-fits)
 
-returns : tie.Need-returns
-returns c =
+returns-2 : tie.Need-returns-2
+returns-2 c =
     let l = c .before .before .before .before in
     let e = l .before .before in
-    let t = e .before .before in
+    let t = e .before in
     let f = soft-at t in
-    let s = t .before .before .before in
-    rw (soft-soil (s .args .c .k1) (s .args .x) (t .if1 .taken))
+    let s = of-curve e in
+    rw (soft-soil (s .args .c .k1) (s .args .x) (t .if1 .left))
     (simp (
-      e .before .ln-quotient .ensures,
+      soft-ratio t,
       ln-is l,
       log-is s,
       share-value (c .before),
@@ -210,43 +234,20 @@ returns c =
       toZ-ofZ (f .swing-fits),
     ))
 
--- ---- from k1 up
-at-most-1100-requires : tie.Need-at-most-1100-requires
-at-most-1100-requires c κs = search needs
-
-hard : (c : tie.Start) → Paired (least (c .args .x .vs30) 1100) (c .args .c .k1)
-hard c = capped (c .args .c) (c .args .x .vs30) (fair-of (c .args .c) (c .pre .0)) (c .pre .1 .vs30-low) (c .pre .1 .vs30-high)
-
-ln-quotient-requires-2 : tie.Need-ln-quotient-requires-2
-ln-quotient-requires-2 c κs =
-    let p = hard (c .before .before .before .before) in
-    rw (c .at-most-1100 .ensures)
-    (omega (arith, p .k-low), omega (arith, p .k-high), omega (arith, p .k-high, p .v-low), omega (arith, p .v-high, p .k-low))
-
-returns-2 : tie.Need-returns-2
-returns-2 c =
-    let e = c .before in
-    let s = e .before .before .before .before in
-    let q = quotient-size (least (s .args .x .vs30) 1100) (s .args .c .k1) (hard s) in
-    let n = sfits-abs (lnQuotient (least (s .args .x .vs30) 1100) (s .args .c .k1)) (omega (arith, q)) in
-    rw (hard-soil (s .args .c .k1) (s .args .x) (e .before .if1 .left))
-    (simp (c .ln-quotient2 .ensures, e .at-most-1100 .ensures, toZ-ofZ n))
-
 pub soil-of-spec : {M : Type 1} → statement M
 soil-of-spec =
     tie.close
     (tie.spec
     cast-k1
+    at-most-1100-requires
     ln-quotient-requires
+    returns
     curve-of-requires
     add-ln-fixed
     ln-fixed-requires
-    sub-gain
+    sub-t10
     share-of-requires
-    cast-swing
-    cast-swing-2
-    sub-swing
-    returns
-    at-most-1100-requires
-    ln-quotient-requires-2
+    cast-t12
+    cast-t13
+    sub-t14
     returns-2)
