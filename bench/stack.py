@@ -158,7 +158,7 @@ class Function:
             points["rsp"] = points["r11"]
         elif found := COPIED.fullmatch(text):
             points[found[2]] = points[found[1]]
-        elif found := BESIDE.fullmatch(text):
+        elif (found := BESIDE.fullmatch(text)) and found[2] in points:
             points[found[3]] = points[found[2]] - int(found[1], 16)
         elif found := CHANGED.fullmatch(text):
             points[found[3]] = changed(points.get(found[3], 0), found[1], int(found[2], 16))
