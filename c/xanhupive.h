@@ -2,7 +2,8 @@
  * Xanhupive from C: a request line completed, or its shaking predicted, in 24 measures or at any period from
  * 0.010 to 10.0 s, by the Campbell-Bozorgnia 2008 equations; and a list of such lines answered in parts.
  * Link libexport.a, which `rt staticlib export` writes, and nothing beside it but the C library's memcpy and
- * memset.
+ * memset. A valve's controller, short of flash, links libcontroller.a instead, which `rt staticlib controller` writes:
+ * it has xanhupive_measure alone, and asks for nothing beside it.
  *
  * A request line is the thirteen fields with single spaces between them, without its LF. It may be any
  * bytes of any length: what is not a request line is refused with number 14. The README has the fields
@@ -74,7 +75,7 @@ extern "C" {
 
 /*
  * Bytes of stack that a call of each function uses at most, below its caller's stack pointer and with its return
- * address, in libexport.a on x86-64.
+ * address, in libexport.a on x86-64; the last is that of xanhupive_measure in libcontroller.a.
  *
  * They are not proved, since the proof is about a machine without a stack. bench/stack.py takes them from the machine
  * code, the deepest way through it, without what memcpy and memset use; it says what it takes from the source. c/stack
@@ -85,14 +86,15 @@ extern "C" {
  * most: the square root, by quarters of its number, stands on the stack 33 times, the series of the sine 8 times, the
  * digits of a number 20 times.
  */
-#define XANHUPIVE_STACK_COMPLETE_LINE 5968
-#define XANHUPIVE_STACK_PREDICT_LINE 12512
-#define XANHUPIVE_STACK_MEASURE 8736
-#define XANHUPIVE_STACK_SPECTRUM 12784
-#define XANHUPIVE_STACK_PERIOD 9360
+#define XANHUPIVE_STACK_COMPLETE_LINE 4560
+#define XANHUPIVE_STACK_PREDICT_LINE 5808
+#define XANHUPIVE_STACK_MEASURE 1552
+#define XANHUPIVE_STACK_SPECTRUM 6768
+#define XANHUPIVE_STACK_PERIOD 2032
 #define XANHUPIVE_STACK_READER_BEGIN 16
-#define XANHUPIVE_STACK_TAKE_PART 12800
+#define XANHUPIVE_STACK_TAKE_PART 6096
 #define XANHUPIVE_STACK_CLOSE 144
+#define XANHUPIVE_STACK_CONTROLLER 1200
 
 /*
  * The completing program's answer: "ok", the five figures and their letters, or "no" and the refusal's
