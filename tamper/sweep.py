@@ -5,12 +5,12 @@
 
 What it tries:
 
-- code: Tables 2 and 3, the periods, what follows from Table 3, the refusals' numbers and limits, the styles (crates tables, sigmas,
-  refusals, request, source_stage, path_stage, site_stage), the constants of the estimates and of the rupture distance (estimate,
-  rupture), the terms, the site, the sigmas, the short periods, the report and the row at any period (factors, terms, site, sigmas,
-  short_periods, reports, periods), the 64-bit functions (reckon), the text form (text, numerals), a list in parts (lists, kept), one
-  period as text and as numbers (answer, row_numbers), how many arguments a program has (programs). A contract's numbers are claims and
-  no code: they are not altered;
+- code: Tables 2 and 3, the periods, what follows from Table 3, the number that a row of these is found by, the refusals' numbers and
+  limits, the styles (crates tables, sigmas, refusals, request, source_stage, path_stage, site_stage), the constants of the estimates and
+  of the rupture distance (estimate, rupture), the terms, the site, the sigmas, the short periods, the order of the measures, the report
+  and the row at any period (factors, terms, site, sigmas, short_periods, measures, reports, periods), the 64-bit functions (reckon), the
+  text form (text, numerals), a list in parts (lists, kept), one period as text and as numbers (answer, row_numbers), how many arguments a
+  program has (programs). A contract's numbers are claims and no code: they are not altered;
 - specs: every number of crates/*/specs but those of the table LEFT; one that neither a place nor LEFT names stops the script.
   --left tells which are left and why;
 - second: the constants, limits and tables of the second program, model.c and request.c with their headers; in main.c how a period is
@@ -103,8 +103,15 @@ MORE = [
     ("code", "crates/site/src/*.rt", EVERY, "site"),
     ("code", "crates/sigmas/src/*.rt", EVERY, "sigmas"),
     ("code", "crates/short_periods/src/*.rt", EVERY, "short_periods"),
+    ("code", "crates/measures/src/*.rt", EVERY, "measures"),
     ("code", "crates/reports/src/*.rt", EVERY, "reports"),
-    ("code", "crates/tables/src/lib.rt", of("PERIODS TABULATED"), "tables"),
+    ("code", "crates/tables/src/periods.rt", EVERY, "tables"),
+    # The number that a row is found by. One more is the next row's: its own arm is then never reached, which is refused before the
+    # proof; where no arm has one more, the proof refuses it.
+    ("code", "crates/tables/src/table[23].rt", re.compile(r": +\d+ => "), "tables"),
+    # How many periods and measures there are, and which is PGA, is held to the specs by the crate that goes through them.
+    ("code", "crates/tables/src/lib.rt", of("PERIODS"), "periods"),
+    ("code", "crates/tables/src/lib.rt", of("MEASURES PGA"), "measures"),
     ("code", "crates/reckon/src/*.rt", EVERY, "reckon"),
     ("code", "crates/text/src/*.rt", EVERY, "text"),
     ("code", "crates/numerals/src/*.rt", EVERY, "numerals"),
@@ -124,11 +131,11 @@ MORE = [
     ("specs", "crates/outcome/specs/*.antt", of("zhypOf"), "source_stage"),
     ("specs", "crates/outcome/specs/*.antt", of("tooShort"), "path_stage"),
     ("specs", "crates/outcome/specs/*.antt", EVERY, "completion"),
-    ("specs", "crates/tables/specs/*.antt", of("periods"), "tables"),
+    ("specs", "crates/tables/specs/*.antt", of("periods measures"), "tables"),
     ("specs", "crates/model/specs/*.antt", of("isShort"), "model"),
-    # Where the code has an array's length, and PGA's place in it.
-    ("specs", "crates/tables/specs/*.antt", of("measures"), "measures"),
+    # PGA's row is first asked for by the rock's motion.
     ("specs", "crates/tables/specs/*.antt", of("PGA"), "site"),
+    ("specs", "crates/measures/specs/*.antt", EVERY, "measures"),
     ("specs", "crates/model/specs/*.antt", of("wallDistance fHng.* deep wallDistanceFixed wallFixed deepFixed"), "factors"),
     ("specs", "crates/model/specs/*.antt", of("byMagnitude fMag.* slope fDis.* lnDistance fFlt.* fSed.*"), "terms"),
     ("specs", "crates/model/specs/*.antt", of("c100 n100 site[CN].* curve.* linear fSite.* rockPGA.* alpha.* E2[4-8] times"), "site"),
@@ -190,6 +197,7 @@ DOWN = [
 SAME = [
     ("crates/model/specs/*", r"(?<=x 1100 )0", "the A1100 of the rock's own site term, which its branch does not read"),
     ("crates/sigmas/src/*", r"if alpha == 0|if more < 0", "what it spares gives the same"),
+    ("crates/measures/src/*", r"^fine_rows_of:  +\w+: 0", "what fills an array before every row is written over"),
     ("crates/reports/src/*", r"^(reports_of|all_shown_of):  +\w+: 0", "what fills an array before every row is written over"),
     ("crates/kept/src/*", r"\[0u8; LONGEST\]", "what fills an array before every byte is written over"),
     ("crates/text/specs/*", r"(?<=getD s 0 )0", "the byte of an empty word: no byte that is asked for"),
@@ -226,10 +234,9 @@ LEFT = [
     ("crates/text/specs/*", r"^numberOf: numberOf \(L\.Is r\) = 0", "0 for no refusal: only the number of a malformed line is read"),
     ("crates/lines/specs/*", r"^orZero: orZero N\.Malformed = 0", "0 for what is no number: no line that was written has it"),
     ("crates/text/specs/*", r"^fieldAt: .*", "past the end of a list: never read"),
-    ("crates/tables/specs/*", r"^no(Coefficients|Deviations): .*", "past the end of a list: never read"),
+    ("crates/tables/specs/*", r"^no(Coefficients|Deviations): .*|getD periods i 0", "past the end of a list: never read"),
     ("crates/tables/specs/*", r"^neg: .*", "-0: no number is printed so"),
     ("crates/model/specs/*", r"^no(Fine|Shown): .*", "past the end of a list: never read"),
-    ("crates/between/specs/*", r"getD periods i 0", "past the end of a list: never read"),
     ("crates/outcome/specs/*", r"noFigure = .*|^figuresOf: .*", "zeros beside a refusal, where the code's answer has no figures: no law reads them"),
     ("crates/examples/specs/*", r".*", "document 01's examples: the test itself"),
     ("crates/programs/specs/*", r"^EndsAs: .*≤ 1", "the bound of an exit status: programs/test tries which it is"),
