@@ -184,7 +184,6 @@ DOWN = [
     ("crates/terms/src/*", r"^f_sed: .*if z < 1_000", "at 1 km both branches give 0"),
     ("crates/site/src/*", r"if v < 1_100", "at 1100 both branches give 1100"),
     ("crates/model/specs/*", r"^rockPGA\w*: .* x 1100", "from 1100 up the site term stays the same"),
-    ("crates/site/src/*", r"f_site_linear\(c, 1_100", "from 1100 up the site term stays the same"),
     ("crates/model/specs/*", r"^isShort: .*0_250", "no period lies between 0.25 and 0.30 s"),
     ("second/model.c", r"^is_short: .*0\.25", "no period lies between 0.25 and 0.30 s"),
     ("crates/fixed/specs/*", r"lnHalved 18|lnDoubled 6", "the most halvings that a number can ask for: one more is never taken"),
