@@ -198,7 +198,7 @@ logarithms-size v k1 a b p h r =
     (logarithms-near v k1 a b p h r) in
     by-parts (lnFixed (a + curveFixed v k1) -ℤ lnFixed (a + siteCFixed)) 2930000123 (s .0) (le-trans (s .1) (lit≤ tt))
 
-pub linear-site-size :
+linear-site-size :
     (c : Coefficients) (v a : ℕ) → Fair c → 150 ≤ v → v ≤ 1500 → c .k1 ≤ v → natAbs (fSiteFixed c v a) ≤ 13100000000
 unfolding fSiteFixed
 linear-site-size c v a f l h k =

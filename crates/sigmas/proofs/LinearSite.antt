@@ -10,8 +10,10 @@ use Rattle.exact.proofs.Root.{root-unique}
 use Rattle.fixed.specs.Fixed.{E9, mulDiv}
 use Rattle.fixed.proofs.SignedLaws.{mulDiv-zero}
 use Rattle.tables.specs.declared.Deviations.{Deviations}
-use Rattle.tables.specs.Tables.{PGA, table3, deviationsAt}
+use Rattle.tables.specs.Tables.{measures, PGA, table3, deviationsAt}
+use Rattle.tables.proofs.RowsRead.{of-deviations}
 use Rattle.model.specs.Fixed.{squaredFixed, atBaseFixed, crossFixed, intraVarianceFixed, sigmaOf}
+use Rattle.model.proofs.Fair.{Spread, spread-of}
 
 -- ---- the steps
 -- sigma_lnAB
@@ -45,6 +47,10 @@ flat d =
   where
     plain : (n : ℕ) → n + 0 ≡ n
     plain n = omega arith
+
+-- ---- the sizes of a measure's row of Table 3
+pub spread-row : (i : ℕ) (d : Deviations) → i < measures → d ≡ deviationsAt i → Spread d
+spread-row i d h e = spread-of d (of-deviations i d h e)
 
 -- ---- the root of a square
 own-root : (r : ℕ) → root (r * r) ≡ r

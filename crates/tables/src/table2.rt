@@ -5,7 +5,8 @@ ghost use Prim.Native.Nat.{_<_};
 ghost use Rattle.tables.specs.Tables.{measures, coefficientsAt};
 
 // The row of a measure: the 21 periods, PGA, PGV, PGD. A row by its number, since the compiler keeps such
-// a choice as constants, where it would build an array anew for each call.
+// a choice as constants, where it would build an array anew for each call. The last arm is PGD's: no other
+// number is asked for.
 pub fn coefficients_at(i: usize) -> Coefficients
     requires { ⌜ i < measures ⌝ }
     ensures { λ r. ⌜ r ≡ coefficientsAt i ⌝ }

@@ -3,7 +3,6 @@ use borrow.Author.Needs.{needs}
 use borrow.Author.Tests.{not-true}
 use mathlib.Core.Path.{sym, _∙_}
 use lib.Dec.{lit<}
-use Rattle.tables.specs.Tables.{PGA}
 use Rattle.tables.proofs.RowsRead.{of-row, pga-row}
 use Rattle.model.proofs.ShortPeriods.{fine-long, fine-raised}
 use Rattle.measures.proofs.fine_at.Statement.{statement}

@@ -15,10 +15,9 @@ use Rattle.exact.proofs.Signed.{sfits-abs, add-abs, abs-parts, by-sign, lt-read
 use Rattle.fixed.specs.Fixed.{E9}
 use Rattle.fixed.proofs.SignedLaws.{mulDiv-abs}
 use Rattle.tables.specs.declared.Deviations.{Deviations}
-use Rattle.tables.proofs.RowsRead.{of-deviations}
 use Rattle.model.specs.Fixed.{squaredFixed, crossFixed, intraVarianceFixed}
-use Rattle.sigmas.proofs.LinearSite.{rock-is, yOf, addedOf, flat}
-use Rattle.model.proofs.Fair.{Spread, spread-of}
+use Rattle.sigmas.proofs.LinearSite.{rock-is, yOf, addedOf, flat, spread-row}
+use Rattle.model.proofs.Fair.{Spread}
 use Rattle.model.proofs.Sizes.{y-fits}
 use Rattle.sigmas.proofs.intra_variance.Statement.{statement}
 use Rattle.sigmas.proofs.intra_variance.Tie as tie
@@ -52,7 +51,7 @@ steps d a f h =
     }
 
 spread : (c : tie.Start) → Spread (c .args .d)
-spread c = spread-of (c .args .d) (of-deviations (c .args .i) (c .args .d) (c .pre .0) (c .pre .1))
+spread c = spread-row (c .args .i) (c .args .d) (c .pre .0) (c .pre .1)
 
 here : (c : tie.Start) → Steps (c .args .d) (c .args .alpha)
 here c = steps (c .args .d) (c .args .alpha) (spread c) (c .pre .2)

@@ -1,6 +1,6 @@
 -- One product, small by the sizes of c9 and of the four factors. Assumes nothing.
 use Prim.Native.Nat.{_*_, _^_, _≤_, _<_}
-use mathlib.Core.Path.{_≡_, _∙_}
+use mathlib.Core.Path.{_≡_}
 use native.Mathlib.Omega.{arith}
 use native.Mathlib.Nat.{mul-le-mul}
 use lib.Dec.{lit≤}

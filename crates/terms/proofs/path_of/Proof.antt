@@ -1,6 +1,6 @@
 -- RRUP² + c6² lies from 16 to below 65 000 square kilometres. Assumes nothing.
 use borrow.Author.Needs.{needs}
-use Prim.Native.Nat.{ℕ, _+_, _*_, _≤_, _<_}
+use Prim.Native.Nat.{ℕ, _+_, _*_, _≤_}
 use mathlib.Core.Path.{_≡_, ap, _∙_}
 use native.Mathlib.Omega.{arith}
 use native.Mathlib.Nat.{mul-le-mul, mul-comm}
@@ -9,7 +9,6 @@ use Rattle.exact.proofs.Signed.{sfits-abs}
 use Rattle.fixed.specs.Fixed.{lnFixed}
 use Rattle.tables.specs.declared.Coefficients.{Coefficients}
 use Rattle.model.specs.declared.Scenario.{Scenario}
-use Rattle.terms.specs.declared.Path.{Path}
 use Rattle.model.specs.Accuracy.{InRange}
 use Rattle.model.specs.Fixed.{lnDistance}
 use Rattle.tables.specs.OfTables.{OfTable2}
