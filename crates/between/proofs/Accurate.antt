@@ -18,14 +18,14 @@ use Rattle.tables.specs.Tables.{periodAt}
 use Rattle.model.specs.declared.Scenario.{Scenario}
 use Rattle.model.specs.declared.Fine.{Fine}
 use Rattle.model.specs.declared.Row.{Row}
-use Rattle.model.specs.Accuracy.{InRange, Exact, exactOf, Accurate}
-use Rattle.model.specs.Equations.{E24, E27}
+use Rattle.model.specs.Accuracy.{InRange, Exact, exactOf, NearSixth, Accurate}
+use Rattle.model.specs.Equations.{E27}
 use Rattle.model.specs.FineNear.{Between, minusFifteen, RootNear, FineNear}
 use Rattle.model.specs.Fixed.{fineFixed, rowFixed, FineInRange}
 use Rattle.model.proofs.Demand.{fine-near, fine-in-range, demand-3}
 use Rattle.model.proofs.NearSums.{near-exact}
 use Rattle.model.proofs.Quotients.{pos-high}
-use Rattle.model.proofs.Reported.{report-near, median-one, median-low, median-high, median-fits}
+use Rattle.model.proofs.Reported.{report-near, median-reported, median-fits}
 use Rattle.between.specs.Periods.{lastUpTo, weight, onLine, sigmaOnLine, lineExact, exactFrom, exactAt}
 use Rattle.between.specs.Fixed.{weightFixed, onLineFixed, fineSigma, sigmaOnLineFixed, toMillionths, drawnFixed, drawnReport, rowFrom, rowAt}
 use Rattle.between.proofs.Line.{line-between, line-plain}
@@ -45,7 +45,7 @@ module _ (w w' : ℕ) (h : Weighed w w') where
   -- a sigma to the nearest millionth
   sigma-reported :
       (e a b a' b' : ℕ) → e + 3 * 2 + 6 ≤ 500 → a' ≤ 2 * E30 → b' ≤ 2 * E30 → NearZ K21 e (pos a) (pos a') → NearZ K21 e (pos b) (pos b')
-      → NearZ E24 1 (pos (toMillionths (up (onLineFixed w (pos a) (pos b))))) (pos (sigmaOnLine w' a' b'))
+      → NearSixth (pos (toMillionths (up (onLineFixed w (pos a) (pos b))))) (pos (sigmaOnLine w' a' b'))
   unfolding nearest onLine
   sigma-reported e a b a' b' room ha hb na nb =
       let l : ℤ = onLineFixed w (pos a) (pos b) in
@@ -61,7 +61,7 @@ module _ (w w' : ℕ) (h : Weighed w w') where
   -- of two variances
   root-reported :
       (v u s r : ℕ) → RootNear v s → RootNear u r → v ≤ 2400000000 → u ≤ 2400000000
-      → NearZ E24 1 (pos (toMillionths (sigmaOnLineFixed w v u))) (pos (sigmaOnLine w' s r))
+      → NearSixth (pos (toMillionths (sigmaOnLineFixed w v u))) (pos (sigmaOnLine w' s r))
   root-reported v u s r n m hv hu =
       sigma-reported 485 (fineSigma v) (fineSigma u) s r (lit≤ tt) (top v s n hv) (top u r m hu) (fineSigma-near v s n) (fineSigma-near u r m)
     where
@@ -107,9 +107,7 @@ module _ (w w' : ℕ) (h : Weighed w w') where
         let x : ℤ = onLine w' (e .ln) (f .ln) in
         record {
           ln-near = report-near (lit≤ tt) ln-near;
-          median-one = median-one l x ln-near ln-inside;
-          median-low = median-low l x ln-near ln-inside;
-          median-high = median-high l x ln-near ln-inside;
+          median-near = median-reported l x ln-near ln-inside;
           intra-near = root-reported (p .intra) (q .intra) (e .intra) (f .intra) (n .intra) (m .intra) (r .intra-high) (s .intra-high);
           inter-near =
               sigma-reported 0 (p .t * 1000000) (q .t * 1000000) (e .inter) (f .inter) (lit≤ tt)

@@ -15,12 +15,32 @@ use Rattle.exact.specs.Series.{expTerms, expSeries, expFrom}
 use Rattle.exact.specs.Exact.{E30, expE}
 use Rattle.exact.proofs.Signed.{mul-up, mul-dn}
 use Rattle.exact.proofs.Quotients.{div-le, mul-below, mul-above, quot-below, quot-above, cancel}
-use Rattle.exact.proofs.ExpSeries.{expTerms-mono, expTerms-split, termAfter, termAfter-mono, countAfter, second-term}
+use Rattle.exact.proofs.ExpSeries.{expTerms-mono, expTerms-split, termAfter-mono, countAfter, second-term}
 use Rattle.exact.proofs.LnExact.{L30}
 use Rattle.exact.proofs.ExpExact.{expE-offset, expFrom-near}
 use Rattle.exact.proofs.TwoScales.{expTerms-close}
 use Rattle.exact.proofs.RelLaws.{rel-trans, rel-times}
-use Rattle.fixed.specs.Fixed.{E9, E10, K20, K21, LN2, expUnit, expShifted, expFixed}
+use Rattle.fixed.proofs.LeftOut.{exp-left-out}
+use Rattle.fixed.specs.Fixed.{E9, K20, K21, expOne, expTwo, expCount, expUnit, expShifted, expFixed}
+
+-- ---- the budget, in units of the inside
+-- how many units of 10^-30 one has, and how many of them make one of 10^-9
+abbrev K : ℕ
+K = E30 / expOne
+
+abbrev tens : ℕ
+tens = expOne / E9
+
+-- the terms from the third on, and by how much the series may be short: four for each of these, and one for what is left out
+abbrev more : ℕ
+more = expCount - 2
+
+abbrev short : ℕ
+short = more * 4 + 1
+
+-- on a value of 1 or more that is five parts in 10^9
+unit-room : short ≤ 5 * tens
+unit-room = lit≤ tt
 
 -- ---- the third term, from a quarter of r; H is half of one
 third-low : (H r : ℕ) → 2 * (r / 4 * r / H) * (2 * H) ≤ r * r
@@ -61,66 +81,64 @@ third-close H K r hH hK hr =
     }
 
 -- ---- the series, r the same at both scales
-tail : expTerms E30 L30 (termAfter E30 L30 (L30 * L30 / E30 / 2) 3 10) (countAfter 3 10) 48 ≤ K20
-unfolding expTerms termAfter countAfter
-tail = lit≤ tt
-
 from-third :
-    (r : ℕ) → expSeries E30 60 (r * K20) ≡ E30 + (r * K20 + expTerms E30 (r * K20) (r * K20 * (r * K20) / E30 / 2) 3 58)
+    (r : ℕ) → expSeries E30 60 (r * K) ≡ E30 + (r * K + expTerms E30 (r * K) (r * K * (r * K) / E30 / 2) 3 58)
 unfolding expSeries expTerms
 from-third r =
-    let R : ℕ = r * K20 in
+    let R : ℕ = r * K in
     ap (λ (t : ℕ). E30 + (t + expTerms E30 R (t * R / E30 / 2) 3 58)) (second-term E30 R (lit≤ tt))
 
-unit-close : (r : ℕ) → r < LN2 → Close K20 41 (expUnit r) (expSeries E30 60 (r * K20))
+unit-close : (r : ℕ) → r < expTwo → Close K short (expUnit r) (expSeries E30 60 (r * K))
 unfolding expUnit
 unit-close r hr =
-    let R : ℕ = r * K20 in
+    let R : ℕ = r * K in
     let T : ℕ = R * R / E30 / 2 in
-    let t : ℕ = r / 4 * r / (E10 / 2) in
-    let quarter : r / 4 ≤ LN2 = omega arith in
-    let t-le : t ≤ E10 = div-le-of-le-mul (E10 / 2) (le-trans (mul-le-mul quarter (le-of-lt hr)) (lit≤ tt)) in
-    let cr : Close K20 2 r R = record { low = le-refl (r * K20); high = mul-le-mul-right K20 (omega arith) } in
-    let c : Close K20 40 (expTerms E10 r t 3 10) (expTerms E30 R T 3 10) =
-    expTerms-close E10 K20 (lit≤ tt) (lit≤ tt) 10 3 t r (lit≤ tt) t-le (omega arith)
-    (third-close (E10 / 2) K20 r (lit≤ tt) (lit≤ tt) (omega arith)) cr in
-    let top : R ≤ L30 = le-trans (mul-le-mul-right K20 (le-of-lt hr)) (lit≤ tt) in
+    let t : ℕ = r / 4 * r / (expOne / 2) in
+    let quarter : r / 4 ≤ expTwo = omega arith in
+    let t-le : t ≤ expOne = div-le-of-le-mul (expOne / 2) (le-trans (mul-le-mul quarter (le-of-lt hr)) (lit≤ tt)) in
+    let cr : Close K 2 r R = record { low = le-refl (r * K); high = mul-le-mul-right K (omega arith) } in
+    let c : Close K (more * 4) (expTerms expOne r t 3 more) (expTerms E30 R T 3 more) =
+    expTerms-close expOne K (lit≤ tt) (lit≤ tt) more 3 t r (lit≤ tt) t-le (omega arith)
+    (third-close (expOne / 2) K r (lit≤ tt) (lit≤ tt) (omega arith)) cr in
+    let top : R ≤ L30 = le-trans (mul-le-mul-right K (le-of-lt hr)) (lit≤ tt) in
     let T-le : T ≤ L30 * L30 / E30 / 2 = div-le 2 (div-le E30 (mul-le-mul top top)) in
-    fin K20 E10 (expTerms E10 r t 3 10) (expTerms E30 R T 3 10) _ _ (expSeries E30 60 R) (from-third r) (expTerms-split E30 R T 3 10 48)
-    (le-trans (expTerms-mono E30 48 (countAfter 3 10) top (termAfter-mono E30 10 3 top T-le)) tail)
+    fin K expOne (expTerms expOne r t 3 more) (expTerms E30 R T 3 more) _ _ (expSeries E30 60 R) (from-third r)
+    (expTerms-split E30 R T 3 more (60 - expCount))
+    (le-trans (expTerms-mono E30 (60 - expCount) (countAfter 3 more) top (termAfter-mono E30 more 3 top T-le)) exp-left-out)
     (c .low) (c .high)
   where
     fin :
-        (K l a b m s e : ℕ) → e ≡ l * K + (r * K + s) → s ≡ b + m → m ≤ K → a * K ≤ b → b ≤ (a + 40) * K → Close K 41 (l + r + a) e
+        (K l a b m s e : ℕ) → e ≡ l * K + (r * K + s) → s ≡ b + m → m ≤ K → a * K ≤ b → b ≤ (a + more * 4) * K
+        → Close K short (l + r + a) e
     fin K l a b m s e he hs hm low high =
         record {
           low = omega (arith, add-mul (l + r) a K, add-mul l r K);
-          high = omega (arith, add-mul (l + r + a) 41 K, add-mul (l + r) a K, add-mul l r K, add-mul a 40 K);
+          high = omega (arith, add-mul (l + r + a) short K, add-mul (l + r) a K, add-mul l r K, add-mul a (more * 4) K);
         }
 
-unit-low : (r : ℕ) → 10 * E9 ≤ expUnit r
+unit-low : (r : ℕ) → tens * E9 ≤ expUnit r
 unfolding expUnit
 unit-low r = omega arith
 
--- 41 units of 10^-10 on a value of 1 or more are five parts in 10^9
-unit-near : (r : ℕ) → r < LN2 → Rel E9 5 0 (expUnit r * K20) (expSeries E30 60 (r * K20))
-unit-near r hr = go E9 K20 (expUnit r) (expSeries E30 60 (r * K20)) (unit-low r) (unit-close r hr)
+unit-near : (r : ℕ) → r < expTwo → Rel E9 5 0 (expUnit r * K) (expSeries E30 60 (r * K))
+unit-near r hr =
+    go E9 K tens short (expUnit r) (expSeries E30 60 (r * K)) unit-room (unit-low r) (unit-close r hr)
   where
-    go : (N K E F : ℕ) → 10 * N ≤ E → Close K 41 E F → Rel N 5 0 (E * K) F
-    go N K E F h c =
+    go : (N K f s E F : ℕ) → s ≤ 5 * f → f * N ≤ E → Close K s E F → Rel N 5 0 (E * K) F
+    go N K f s E F room h c =
+        let parts : s * N ≤ 5 * E = omega (arith, mul-le-mul-right N room, mul-assoc 5 f N) in
         record {
           low = omega (arith, mul-le-mul-right N (c .low), mul-add F N 5);
           high =
               omega (
                 arith,
                 mul-le-mul-right N (c .high),
-                add-mul E 41 K,
-                add-mul (E * K) (41 * K) N,
+                add-mul E s K,
+                add-mul (E * K) (s * K) N,
                 mul-add (E * K) N 5,
-                mul-assoc 41 K N,
-                mul-comm K N,
-                mul-le-mul-right K h,
-                mul-assoc 10 N K,
+                mul-right-comm s K N,
+                mul-le-mul-right K parts,
+                mul-assoc 5 E K,
               );
         }
 
@@ -129,26 +147,28 @@ together : (k R : ℕ) → R < L30 → 2 ^ k * expSeries E30 60 R ≡ expFrom E3
 unfolding expFrom
 together k R h = sym (ap₂ (λ (a b : ℕ). 2 ^ a * expSeries E30 60 b) (digits-div k h) (digits-mod k h))
 
--- l is ln 2 at the coarse scale and φ what it lacks; y is x and 32 l, Y is x at the fine scale and 32 ln 2: at most 32 φ apart
+-- l is ln 2 at the coarse scale and φ what it lacks, f coarse units make one of x; y is x and 32 l, Y is x at the fine scale and 32 ln 2: at
+-- most 32 φ apart
 same-argument :
-    (K M l φ k r y Y u d : ℕ) → M ≡ 10 * K → k ≤ 64 → k * l + r ≡ y → 10 * u + 32 * l ≡ 10 * d + y → u * M + 32 * (l * K + φ) ≡ d * M + Y
+    (K M f l φ k r y Y u d : ℕ) → M ≡ f * K → k ≤ 64 → k * l + r ≡ y → f * u + 32 * l ≡ f * d + y
+    → u * M + 32 * (l * K + φ) ≡ d * M + Y
     → 32 * φ ≤ 2 * M
     → (k * (l * K + φ) + r * K ≤ Y + 2 * M) × (Y ≤ k * (l * K + φ) + r * K + 2 * M)
-same-argument K M l φ k r y Y u d eM hk ey ex eY small =
+same-argument K M f l φ k r y Y u d eM hk ey ex eY small =
     let z : k * (l * K + φ) + r * K ≡ y * K + k * φ =
     omega (arith, mul-add k (l * K) φ, mul-assoc k l K, add-mul (k * l) r K, ap (λ (t : ℕ). t * K) ey) in
-    let s : 10 * (u * K) + 32 * (l * K) ≡ 10 * (d * K) + y * K =
+    let s : f * (u * K) + 32 * (l * K) ≡ f * (d * K) + y * K =
     omega (
       arith,
       ap (λ (t : ℕ). t * K) ex,
-      add-mul (10 * u) (32 * l) K,
-      add-mul (10 * d) y K,
-      mul-assoc 10 u K,
+      add-mul (f * u) (32 * l) K,
+      add-mul (f * d) y K,
+      mul-assoc f u K,
       mul-assoc 32 l K,
-      mul-assoc 10 d K,
+      mul-assoc f d K,
     ) in
     let w : Y ≡ y * K + 32 * φ =
-    omega (arith, ap (λ (t : ℕ). u * t) eM, ap (λ (t : ℕ). d * t) eM, mul-left-comm u 10 K, mul-left-comm d 10 K) in
+    omega (arith, ap (λ (t : ℕ). u * t) eM, ap (λ (t : ℕ). d * t) eM, mul-left-comm u f K, mul-left-comm d f K) in
     let kφ : k * φ ≤ 64 * φ = mul-le-mul-right φ hk in
     (omega (arith, z, w, kφ, small), omega (arith, z, w, small))
 
@@ -204,22 +224,22 @@ floor-near N ρ K P W Q hP hK r =
 
 -- ---- the whole
 shifted-near :
-    (y Y u d : ℕ) → y < 65 * LN2 → 10 * u + 32 * LN2 ≡ 10 * d + y → u * K21 + 32 * L30 ≡ d * K21 + Y
-    → Rel E9 10 (K20 * (E9 + 10)) (expShifted y * K20) (expFrom E30 60 L30 Y / 2 ^ 32)
+    (y Y u d : ℕ) → y < 65 * expTwo → tens * u + 32 * expTwo ≡ tens * d + y → u * K21 + 32 * L30 ≡ d * K21 + Y
+    → Rel E9 10 (K * (E9 + 10)) (expShifted y * K) (expFrom E30 60 L30 Y / 2 ^ 32)
 unfolding expShifted
 shifted-near y Y u d hy ey eY =
-    let k : ℕ = y / LN2 in
-    let r : ℕ = y % LN2 in
-    let hr : y % LN2 < LN2 = mod-lt y (lit≤ tt) in
-    let hk : y / LN2 ≤ 64 = omega arith in
-    let R-lt : r * K20 < L30 = lt-of-lt-of-le (mul-lt-mul-of-pos-right hr (lit≤ tt)) (lit≤ tt) in
-    let a : Rel E9 5 0 (2 ^ k * expUnit r * K20) (expFrom E30 60 L30 (k * L30 + r * K20)) =
-    subst₂ (λ (s t : ℕ). Rel E9 5 0 s t) (sym (mul-assoc (2 ^ k) (expUnit r) K20)) (together k (r * K20) R-lt)
-    (plain (2 ^ k) (rel-times E9 5 0 (expUnit r * K20) (expSeries E30 60 (r * K20)) (2 ^ k) (unit-near r hr))) in
-    let near = same-argument K20 K21 LN2 59945309417232121428 k r y Y u d refl hk (div-add-mod' y LN2) ey eY (lit≤ tt) in
-    let b : Rel E9 4 0 (expFrom E30 60 L30 (k * L30 + r * K20)) (expFrom E30 60 L30 Y) =
-    expFrom-near E9 K21 2 refl (lit≤ tt) (lit≤ tt) (lit≤ tt) (lit≤ tt) (k * L30 + r * K20) Y (near .0) (near .1) in
-    floor-near E9 10 K20 (2 ^ 32) (2 ^ k * expUnit r) (expFrom E30 60 L30 Y) (lit≤ tt) (lit≤ tt)
+    let k : ℕ = y / expTwo in
+    let r : ℕ = y % expTwo in
+    let hr : y % expTwo < expTwo = mod-lt y (lit≤ tt) in
+    let hk : y / expTwo ≤ 64 = omega arith in
+    let R-lt : r * K < L30 = lt-of-lt-of-le (mul-lt-mul-of-pos-right hr (lit≤ tt)) (lit≤ tt) in
+    let a : Rel E9 5 0 (2 ^ k * expUnit r * K) (expFrom E30 60 L30 (k * L30 + r * K)) =
+    subst₂ (λ (s t : ℕ). Rel E9 5 0 s t) (sym (mul-assoc (2 ^ k) (expUnit r) K)) (together k (r * K) R-lt)
+    (plain (2 ^ k) (rel-times E9 5 0 (expUnit r * K) (expSeries E30 60 (r * K)) (2 ^ k) (unit-near r hr))) in
+    let near = same-argument K K21 tens expTwo (L30 - expTwo * K) k r y Y u d refl hk (div-add-mod' y expTwo) ey eY (lit≤ tt) in
+    let b : Rel E9 4 0 (expFrom E30 60 L30 (k * L30 + r * K)) (expFrom E30 60 L30 Y) =
+    expFrom-near E9 K21 2 refl (lit≤ tt) (lit≤ tt) (lit≤ tt) (lit≤ tt) (k * L30 + r * K) Y (near .0) (near .1) in
+    floor-near E9 10 K (2 ^ 32) (2 ^ k * expUnit r) (expFrom E30 60 L30 Y) (lit≤ tt) (lit≤ tt)
     (rel-trans E9 5 4 0 0 _ _ _ (lit≤ tt) (lit≤ tt) (lit≤ tt) (lit≤ tt) a b)
   where
     plain : (c : ℕ) {a b : ℕ} → Rel E9 5 (c * 0) a b → Rel E9 5 0 a b
@@ -230,7 +250,7 @@ pub expFixed-near :
     (x : ℤ) → up x ≤ 22000000000 → dn x ≤ 22000000000 → Rel E9 10 (K20 * (E9 + 10)) (expFixed x * K20) (expE (x *ℤ pos K21))
 unfolding expFixed
 expFixed-near x hu hd =
-    let y : ℕ = 10 * up x + 32 * LN2 - 10 * dn x in
+    let y : ℕ = tens * up x + 32 * expTwo - tens * dn x in
     let Y : ℕ = up x * K21 + 32 * L30 - dn x * K21 in
     let eY : up x * K21 + 32 * L30 ≡ dn x * K21 + Y =
     whole (up x * K21) (dn x * K21) (32 * L30) (le-trans (mul-le-mul-right K21 hd) (lit≤ tt)) in

@@ -10,32 +10,32 @@ use Rattle.exact.proofs.Signed.{neg-up, neg-dn}
 use Rattle.exact.proofs.Quotients.{div-le}
 use Rattle.exact.proofs.ExpSeries.{expTerms-mono}
 use Rattle.exact.proofs.ExpWhole.{doubling-mono}
-use Rattle.fixed.specs.Fixed.{E10, LN2, nearest, expUnit, expShifted, expFixed}
+use Rattle.fixed.specs.Fixed.{E9, expOne, expTwo, expCount, nearest, expUnit, expShifted, expFixed}
 
 -- ---- the exponential
 unit-mono : (r r' : ℕ) → r ≤ r' → expUnit r ≤ expUnit r'
 unfolding expUnit
 unit-mono r r' h =
-    add-le-add (add-le-add (le-refl E10) h) (expTerms-mono E10 10 3 h (div-le (E10 / 2) (mul-le-mul (div-le 4 h) h)))
+    add-le-add (add-le-add (le-refl expOne) h) (expTerms-mono expOne (expCount - 2) 3 h (div-le (expOne / 2) (mul-le-mul (div-le 4 h) h)))
 
-unit-one : (r : ℕ) → E10 ≤ expUnit r
+unit-one : (r : ℕ) → expOne ≤ expUnit r
 unfolding expUnit
 unit-one r = omega arith
 
-unit-top : expUnit LN2 ≤ 2 * E10
+unit-top : expUnit expTwo ≤ 2 * expOne
 unfolding expUnit
 unit-top = lit≤ tt
 
 shifted-mono : (x y : ℕ) → x ≤ y → expShifted x ≤ expShifted y
 unfolding expShifted
-shifted-mono x y h = div-le (2 ^ 32) (doubling-mono expUnit E10 LN2 (lit≤ tt) unit-mono unit-one unit-top x y h)
+shifted-mono x y h = div-le (2 ^ 32) (doubling-mono expUnit expOne expTwo (lit≤ tt) unit-mono unit-one unit-top x y h)
 
 pub expFixed-mono : (x y : ℤ) → up x + dn y ≤ up y + dn x → expFixed x ≤ expFixed y
 unfolding expFixed
 expFixed-mono x y h =
-    shifted-mono (10 * up x + 32 * LN2 - 10 * dn x) (10 * up y + 32 * LN2 - 10 * dn y) (put-in (up x) (dn x) (up y) (dn y) h)
+    shifted-mono (expOne / E9 * up x + 32 * expTwo - expOne / E9 * dn x) (expOne / E9 * up y + 32 * expTwo - expOne / E9 * dn y) (put-in (up x) (dn x) (up y) (dn y) h)
   where
-    put-in : (a b c d : ℕ) → a + d ≤ c + b → 10 * a + 32 * LN2 - 10 * b ≤ 10 * c + 32 * LN2 - 10 * d
+    put-in : (a b c d : ℕ) → a + d ≤ c + b → expOne / E9 * a + 32 * expTwo - expOne / E9 * b ≤ expOne / E9 * c + 32 * expTwo - expOne / E9 * d
     put-in a b c d k = omega arith
 
 -- ---- the nearest whole number

@@ -1,4 +1,5 @@
 pub mod LnTwos
+pub mod LeftOut
 pub mod SignedLaws
 pub mod LnNear
 pub mod LnNarrow

@@ -16,12 +16,13 @@ use Rattle.exact.specs.Laws.{Close}
 use Rattle.exact.specs.Series.{lnTerms, lnSeries, lnUnit, lnHalving, lnFrom}
 use Rattle.exact.specs.Exact.{E30, lnE}
 use Rattle.exact.proofs.Quotients.{div-le, cancel, mul-small, over-quot}
-use Rattle.exact.proofs.LnSeries.{powerAfter, oddAfter, lnTail, lnTail-mono, lnTerms-split, lnUnit-one, below-third, three-thirds}
+use Rattle.exact.proofs.LnSeries.{lnTail, lnTail-mono, lnTerms-split, lnUnit-one, below-third, three-thirds}
 use Rattle.exact.proofs.LnRatio.{from-one, lnRatio-below, lnRatio-above}
 use Rattle.exact.proofs.LnWhole.{lnFrom-at, lnFrom-double}
 use Rattle.exact.proofs.LnExact.{L30, L30-unit, lnE-parts}
 use Rattle.exact.proofs.TwoScales.{above-add, close-ratio}
-use Rattle.fixed.specs.Fixed.{E12, K20, lnNarrow}
+use Rattle.fixed.proofs.LeftOut.{narrow-left-out}
+use Rattle.fixed.specs.Fixed.{E12, K20, narrowCount, lnNarrow}
 
 -- ---- it grows
 -- the square of z as a quotient w/S, and the power p of z
@@ -79,7 +80,7 @@ lnNarrow-ratio p q p' q' hq hq' low h =
     div-le 100
     (mul-le-mul-left 2
     (lnTerms-grow ((p + q) * (p + q)) ((p' + q') * (p' + q')) ((p - q) * (p - q)) ((p' - q') * (p' - q')) (mul-pos hb hb)
-    (mul-pos hb' hb') (cross-square (p - q) (p + q) (p' - q') (p' + q') z) 12 1
+    (mul-pos hb' hb') (cross-square (p - q) (p + q) (p' - q') (p' + q') z) narrowCount 1
     (first-power E12 (p - q) (p + q) (p' - q') (p' + q') hb hb' z)))
 
 pub lnNarrow-mono : (p p' q : ℕ) → 0 < q → q ≤ p → p ≤ p' → lnNarrow p q ≤ lnNarrow p' q
@@ -298,10 +299,6 @@ series-apart S K n k a b hS hK hb third tail =
 abbrev K18 : ℕ
 K18 = 1_000000_000000_000000
 
-short-tail : 2 * lnTail E30 12 48 (E30 / 3) ≤ K18
-unfolding lnTerms powerAfter oddAfter
-short-tail = lit≤ tt
-
 -- twice the coarse sum is lnNarrow once divided by 100
 hundredth-low : (K N C F U : ℕ) → N * 100 ≤ C → C * K ≤ F + 72 → 32 * F ≤ 32 * U + (250 * 59 + 1146) → N * (100 * K) ≤ U + 1000
 hundredth-low K N C F U h k l = omega (arith, mul-le-mul-right K h, mul-assoc N 100 K)
@@ -322,11 +319,11 @@ unit-near :
     → (lnNarrow p q * K20 ≤ lnUnit E30 60 (p * E30 / q) + 1000) × (lnUnit E30 60 (p * E30 / q) ≤ (lnNarrow p q + 2) * K20)
 unfolding lnNarrow
 unit-near p q hq low top =
-    let C : ℕ = 2 * lnTerms ((p + q) * (p + q)) ((p - q) * (p - q)) ((p - q) * E12 / (p + q)) 1 12 in
+    let C : ℕ = 2 * lnTerms ((p + q) * (p + q)) ((p - q) * (p - q)) ((p - q) * E12 / (p + q)) 1 narrowCount in
     let F : ℕ = lnSeries E30 60 ((p - q) * E30 / (p + q)) in
     let U : ℕ = lnUnit E30 60 (p * E30 / q) in
     let c : Apart K18 72 49 C F =
-    series-apart E12 K18 12 48 (p - q) (p + q) (lit≤ tt) (lit≤ tt) (omega arith) (omega arith) short-tail in (
+    series-apart E12 K18 narrowCount (60 - narrowCount) (p - q) (p + q) (lit≤ tt) (lit≤ tt) (omega arith) (omega arith) narrow-left-out in (
       hundredth-low K18 (C / 100) C F U (div-mul-le-self C 100) (c .low) (lnRatio-above E30 59 p q (lit≤ tt) hq low top),
       hundredth-high K18 (C / 100) C F U (tens C) (c .high) (lnRatio-below E30 60 p q (lit≤ tt) hq low),
     )

@@ -1,7 +1,8 @@
 -- The program's logarithms lie near the exact one: of a fixed-point number within 7 units of 10^-9, of a quotient within 5. Both are
--- j ln 2 and the logarithm of a ratio P/Q from 1 to 2. The series at 10^-10 is short of the exact one by at most 41 units of 10^-10,
--- the j parts of ln 2 by 6 j/10; the exact logarithm of 2^j P/Q is within 12 units (where a fixed-point number was halved and
--- rounded) or within a tiny fraction of one (a quotient) of that at the argument. A division by 10 and ln 8 finish. Assumes nothing.
+-- j ln 2 and the logarithm of a ratio P/Q from 1 to 2. In units of 10^-10, those of the inside, the series is short of the exact one by
+-- at most 41, the j parts of ln 2 by 6 j/10; the exact logarithm of 2^j P/Q is within 12 (where a fixed-point number was halved and
+-- rounded) or within a tiny fraction of one (a quotient) of that at the argument. A division by 10 and ln 8 finish. The laws hold at
+-- any scale and number of terms: those of the program are read where the budget is added up. Assumes nothing.
 use Prim.Native.Nat.{ℕ, zero, suc, _+_, _-_, _*_, _/_, _^_, _≤_, _<_}
 use mathlib.Core.Path.{_≡_, refl, sym, ap, subst, _∙_}
 use native.Mathlib.Omega.{arith}
@@ -12,47 +13,68 @@ use lib.IntN.{ℤ, pos, _-ℤ_}
 use lib.Pow.{pow-pos}
 use Rattle.exact.specs.Near.{up, dn, NearZ}
 use Rattle.exact.specs.Laws.{Close}
-use Rattle.exact.specs.Series.{lnTerms, lnSeries, lnUnit, lnHalving, lnFrom}
+use Rattle.exact.specs.Series.{lnSeries, lnUnit, lnHalving, lnFrom}
 use Rattle.exact.specs.Exact.{E30, lnE}
 use Rattle.exact.proofs.Signed.{sub-is}
 use Rattle.exact.proofs.Quotients.{cancel}
-use Rattle.exact.proofs.LnSeries.{powerAfter, oddAfter, lnTail, below-third, three-thirds}
+use Rattle.exact.proofs.LnSeries.{below-third, three-thirds}
 use Rattle.exact.proofs.LnRatio.{from-one, lnRatio-below, lnRatio-above}
 use Rattle.exact.proofs.LnWhole.{half-below, lnFrom-power, lnFrom-at, lnFrom-mono}
 use Rattle.exact.proofs.LnExact.{L30, L30-unit, lnE-parts, lnFrom-near}
 use Rattle.exact.proofs.TwoScales.{close-ratio, lnSeries-close}
 use Rattle.fixed.proofs.LnTwos.{halved-last, halved-more, doubled-last, doubled-more}
-use Rattle.fixed.specs.Fixed.{E9, E10, K20, K21, LN2, LN8, lnRatio, lnHalved, lnFixed, lnDoubled, lnQuotient}
+use Rattle.fixed.proofs.LeftOut.{ln-left-out}
+use Rattle.fixed.specs.Fixed.{E9, E10, K20, K21, LN8, lnOne, lnTwo, lnCount, lnRatio, lnHalved, lnFixed, lnDoubled, lnQuotient}
+
+-- ---- the budget, in units of the inside
+-- how many units of 10^-30 one has, and how many of them make one of 10^-9
+abbrev K : ℕ
+K = E30 / lnOne
+
+abbrev tens : ℕ
+tens = lnOne / E9
+
+-- by how much the series may be short: four a term, and one for what is left out
+abbrev short : ℕ
+short = lnCount * 4 + 1
+
+-- by how much 3 ln 2 is above what is taken out for it
+abbrev spare : ℕ
+spare = (3 * L30 - LN8 * K21) / K
+
+-- of a fixed-point number: the series, 18 parts of ln 2, the halves that were rounded, the last division
+fixed-room : short + 11 + 12 + tens ≤ tens * 7 + spare + 1
+fixed-room = lit≤ tt
+
+-- of a quotient: the series, six parts of ln 2, the quotient at 10^-30, the last division
+quotient-room : short + 4 + 1 + tens ≤ tens * 5 + spare + 1
+quotient-room = lit≤ tt
 
 -- ---- a ratio from 1 to 2
-short-tail : 2 * lnTail E30 10 50 (E30 / 3) ≤ K20
-unfolding lnTerms powerAfter oddAfter
-short-tail = lit≤ tt
-
--- ten terms at 10^-10 against sixty at 10^-30, z the same quotient
+-- the series against sixty terms at 10^-30, z the same quotient
 series-close :
-    (p q : ℕ) → 0 < q → q ≤ p → p ≤ 2 * q → Close K20 41 (lnRatio p q) (lnSeries E30 60 ((p - q) * E30 / (p + q)))
+    (p q : ℕ) → 0 < q → q ≤ p → p ≤ 2 * q → Close K short (lnRatio p q) (lnSeries E30 60 ((p - q) * E30 / (p + q)))
 unfolding lnRatio
 series-close p q hq h top =
     let d : ℕ = p + q in
     let hd : 0 < d = omega arith in
     let h3 : 3 * (p - q) ≤ d = omega arith in
-    subst (λ (t : ℕ). Close K20 41 (lnSeries E10 10 ((p - q) * E10 / d)) (lnSeries E30 60 (t / d))) (mul-assoc (p - q) E10 K20)
-    (lnSeries-close E10 K20 10 50 ((p - q) * E10 / d) ((p - q) * E10 * K20 / d) (lit≤ tt) (lit≤ tt)
-    (three-thirds E10 _ (below-third E10 (p - q) d hd h3))
-    (le-trans (le-of-eq (ap (λ (t : ℕ). t / d) (mul-assoc (p - q) E10 K20))) (below-third E30 (p - q) d hd h3))
-    short-tail
-    (close-ratio d K20 ((p - q) * E10) hd))
+    subst (λ (t : ℕ). Close K short (lnSeries lnOne lnCount ((p - q) * lnOne / d)) (lnSeries E30 60 (t / d))) (mul-assoc (p - q) lnOne K)
+    (lnSeries-close lnOne K lnCount (60 - lnCount) ((p - q) * lnOne / d) ((p - q) * lnOne * K / d) (lit≤ tt) (lit≤ tt)
+    (three-thirds lnOne _ (below-third lnOne (p - q) d hd h3))
+    (le-trans (le-of-eq (ap (λ (t : ℕ). t / d) (mul-assoc (p - q) lnOne K))) (below-third E30 (p - q) d hd h3))
+    ln-left-out
+    (close-ratio d K ((p - q) * lnOne) hd))
 
 -- against the exact logarithm of the quotient rounded down
-ratio-low : (p q : ℕ) → 0 < q → q ≤ p → p ≤ 2 * q → lnRatio p q * K20 ≤ lnUnit E30 60 (p * E30 / q) + 500
+ratio-low : (p q : ℕ) → 0 < q → q ≤ p → p ≤ 2 * q → lnRatio p q * K ≤ lnUnit E30 60 (p * E30 / q) + 500
 ratio-low p q hq h top =
     fin _ _ (lnUnit E30 60 (p * E30 / q)) (series-close p q hq h top .low) (lnRatio-above E30 59 p q (lit≤ tt) hq h top)
   where
     fin : (a b m : ℕ) → a ≤ b → 32 * b ≤ 32 * m + (250 * 59 + 1146) → a ≤ m + 500
     fin a b m k l = omega arith
 
-ratio-high : (p q : ℕ) → 0 < q → q ≤ p → p ≤ 2 * q → lnUnit E30 60 (p * E30 / q) ≤ (lnRatio p q + 41) * K20
+ratio-high : (p q : ℕ) → 0 < q → q ≤ p → p ≤ 2 * q → lnUnit E30 60 (p * E30 / q) ≤ (lnRatio p q + short) * K
 ratio-high p q hq h top = le-trans (lnRatio-below E30 60 p q (lit≤ tt) hq h) (series-close p q hq h top .high)
 
 -- ---- with j powers of two
@@ -66,9 +88,9 @@ powers j p q hq h top =
     lnFrom-power E30 60 L30 j (p * E30 / q) (lit≤ tt) (from-one E30 p q hq h)
     ∙ ap (λ (t : ℕ). j * L30 + t) (lnFrom-at E30 60 L30 0 (p * E30 / q) (lit≤ tt) (quotient-top p q hq top))
 
--- j ln 2 at 10^-10 is short by at most 6 j/10 units
-twos : (j t : ℕ) → 6 * j ≤ 10 * t → (j * LN2 * K20 ≤ j * L30) × (j * L30 ≤ (j * LN2 + t) * K20)
-twos j t h = go K20 LN2 L30 (lit≤ tt) (lit≤ tt)
+-- j ln 2 is short by at most 6 j/10 units
+twos : (j t : ℕ) → 6 * j ≤ 10 * t → (j * lnTwo * K ≤ j * L30) × (j * L30 ≤ (j * lnTwo + t) * K)
+twos j t h = go K lnTwo L30 (lit≤ tt) (lit≤ tt)
   where
     go : (K l L : ℕ) → l * K ≤ L → 10 * L ≤ 10 * (l * K) + 6 * K → (j * l * K ≤ j * L) × (j * L ≤ (j * l + t) * K)
     go K l L low high = (
@@ -90,75 +112,72 @@ twos j t h = go K20 LN2 L30 (lit≤ tt) (lit≤ tt)
 
 -- the coarse value, j ln 2 and the ratio, against the exact logarithm of 2^j P/Q
 coarse : ℕ → ℕ → ℕ → ℕ
-coarse j p q = j * LN2 + lnRatio p q
+coarse j p q = j * lnTwo + lnRatio p q
 
-coarse-low : (j p q : ℕ) → 0 < q → q ≤ p → p < 2 * q → coarse j p q * K20 ≤ lnFrom E30 60 L30 (2 ^ j * (p * E30 / q)) + 500
+coarse-low : (j p q : ℕ) → 0 < q → q ≤ p → p < 2 * q → coarse j p q * K ≤ lnFrom E30 60 L30 (2 ^ j * (p * E30 / q)) + 500
 unfolding coarse
 coarse-low j p q hq h top =
     rw (powers j p q hq h top)
-    (fin (lnRatio p q) (lnUnit E30 60 (p * E30 / q)) K20 (j * LN2) (j * L30) (twos j j (omega arith) .0) (ratio-low p q hq h (le-of-lt top)))
+    (fin (lnRatio p q) (lnUnit E30 60 (p * E30 / q)) K (j * lnTwo) (j * L30) (twos j j (omega arith) .0) (ratio-low p q hq h (le-of-lt top)))
   where
     fin : (r m K a b : ℕ) → a * K ≤ b → r * K ≤ m + 500 → (a + r) * K ≤ b + m + 500
     fin r m K a b k l = omega (arith, add-mul a r K)
 
 coarse-high :
     (j p q t : ℕ) → 0 < q → q ≤ p → p < 2 * q → 6 * j ≤ 10 * t
-    → lnFrom E30 60 L30 (2 ^ j * (p * E30 / q)) ≤ (coarse j p q + (41 + t)) * K20
+    → lnFrom E30 60 L30 (2 ^ j * (p * E30 / q)) ≤ (coarse j p q + (short + t)) * K
 unfolding coarse
 coarse-high j p q t hq h top ht =
     rw (powers j p q hq h top)
-    (fin (lnRatio p q) (lnUnit E30 60 (p * E30 / q)) K20 (j * LN2) (j * L30) (twos j t ht .1) (ratio-high p q hq h (le-of-lt top)))
+    (fin (lnRatio p q) (lnUnit E30 60 (p * E30 / q)) K (j * lnTwo) (j * L30) (twos j t ht .1) (ratio-high p q hq h (le-of-lt top)))
   where
-    fin : (r m K a b : ℕ) → b ≤ (a + t) * K → m ≤ (r + 41) * K → b + m ≤ (a + r + (41 + t)) * K
-    fin r m K a b k l = omega (arith, add-mul a t K, add-mul r 41 K, add-mul (a + r) (41 + t) K, add-mul a r K, add-mul 41 t K)
+    fin : (r m K a b : ℕ) → b ≤ (a + t) * K → m ≤ (r + short) * K → b + m ≤ (a + r + (short + t)) * K
+    fin r m K a b k l =
+        omega (arith, add-mul a t K, add-mul r short K, add-mul (a + r) (short + t) K, add-mul a r K, add-mul short t K)
 
--- ---- the division by 10, and three powers of two taken out
+-- ---- the last division, and three powers of two taken out
 spread : (M u m d q : ℕ) → u + (0 + m) ≡ d + (q + 0) → u * M + m * M ≡ d * M + q * M
 spread M u m d q k =
     omega (arith, ap (λ (t : ℕ). t * M) k, add-mul u (0 + m) M, add-mul d (q + 0) M, add-mul 0 m M, add-mul q 0 M)
 
--- C is the coarse value and q its tens; c is q less m, where m is 3 ln 2 at 10^-9 rounded down; l is 3 ln 2 at 10^-30
+-- C is the coarse value, q what is left of it once it is divided by f; c is q less m, where m is 3 ln 2 at 10^-9 rounded down; l is 3 ln 2
+-- at 10^-30, at least g coarse units more
 leaf-low :
-    (K e C q m l F : ℕ) (c z : ℤ) → 2 ≤ e → q * 10 ≤ C → up c + (0 + m) ≡ dn c + (q + 0) → up z + l ≡ dn z + F
-    → l ≤ (m + 1) * (10 * K) → C * K ≤ F + K
-    → up c * (10 * K) + dn z ≤ up z + dn c * (10 * K) + e * (10 * K)
-leaf-low K e C q m l F c z he hq ec ez hl h =
+    (K f e C q m l F : ℕ) (c z : ℤ) → 2 ≤ e → K ≤ f * K → q * f ≤ C → up c + (0 + m) ≡ dn c + (q + 0) → up z + l ≡ dn z + F
+    → l ≤ (m + 1) * (f * K) → C * K ≤ F + K
+    → up c * (f * K) + dn z ≤ up z + dn c * (f * K) + e * (f * K)
+leaf-low K f e C q m l F c z he hf hq ec ez hl h =
     omega (
       arith,
-      spread (10 * K) (up c) m (dn c) q ec,
-      add-mul m 1 (10 * K),
+      spread (f * K) (up c) m (dn c) q ec,
+      add-mul m 1 (f * K),
       mul-le-mul-right K hq,
-      mul-assoc q 10 K,
-      mul-le-mul-right (10 * K) he,
+      mul-assoc q f K,
+      mul-le-mul-right (f * K) he,
     )
 
 leaf-high :
-    (K e t C q m l F : ℕ) (c z : ℤ) → t + 3 ≤ 10 * e → C ≤ q * 10 + 9 → up c + (0 + m) ≡ dn c + (q + 0) → up z + l ≡ dn z + F
-    → m * (10 * K) + 6 * K ≤ l → F ≤ (C + t) * K
-    → up z + dn c * (10 * K) ≤ up c * (10 * K) + dn z + e * (10 * K)
-leaf-high K e t C q m l F c z ht hq ec ez hl h =
-    omega (
-      arith,
-      spread (10 * K) (up c) m (dn c) q ec,
-      add-mul C t K,
-      mul-le-mul-right K hq,
-      add-mul (q * 10) 9 K,
-      mul-assoc q 10 K,
-      mul-le-mul-right K ht,
-      add-mul t 3 K,
-      mul-assoc 10 e K,
-      mul-left-comm e 10 K,
-    )
+    (K f g e t C q m l F : ℕ) (c z : ℤ) → t + f ≤ f * e + g + 1 → C < q * f + f → up c + (0 + m) ≡ dn c + (q + 0)
+    → up z + l ≡ dn z + F
+    → m * (f * K) + g * K ≤ l → F ≤ (C + t) * K
+    → up z + dn c * (f * K) ≤ up c * (f * K) + dn z + e * (f * K)
+leaf-high K f g e t C q m l F c z ht hq ec ez hl h =
+    let room : t * K + f * K ≤ e * (f * K) + g * K + K =
+    omega (arith, mul-le-mul-right K ht, add-mul t f K, add-mul (f * e + g) 1 K, add-mul (f * e) g K, mul-assoc f e K, mul-left-comm e f K) in
+    let above : C * K + K ≤ q * (f * K) + f * K =
+    omega (arith, mul-le-mul-right K hq, add-mul C 1 K, suc-mul C K, add-mul (q * f) f K, mul-assoc q f K) in
+    omega (arith, room, above, spread (f * K) (up c) m (dn c) q ec, add-mul C t K)
 
 leaf :
-    (e t C F : ℕ) (z : ℤ) → t + 3 ≤ 10 * e → 2 ≤ e → up z + 3 * L30 ≡ dn z + F → C * K20 ≤ F + K20 → F ≤ (C + t) * K20
-    → NearZ K21 e (pos (C / 10) -ℤ pos LN8) z
+    (e t C F : ℕ) (z : ℤ) → t + tens ≤ tens * e + spare + 1 → 2 ≤ e → up z + 3 * L30 ≡ dn z + F → C * K ≤ F + K → F ≤ (C + t) * K
+    → NearZ K21 e (pos (C / tens) -ℤ pos LN8) z
 leaf e t C F z ht he ez low high =
-    let c : ℤ = pos (C / 10) -ℤ pos LN8 in
+    let c : ℤ = pos (C / tens) -ℤ pos LN8 in
+    let ec = sub-is (pos (C / tens)) (pos LN8) in
     record {
-      low = leaf-low K20 e C (C / 10) LN8 (3 * L30) F c z he (omega arith) (sub-is (pos (C / 10)) (pos LN8)) ez (lit≤ tt) low;
+      low = leaf-low K tens e C (C / tens) LN8 (3 * L30) F c z he (lit≤ tt) (div-mul-le-self C tens) ec ez (lit≤ tt) low;
       high =
-          leaf-high K20 e t C (C / 10) LN8 (3 * L30) F c z ht (omega arith) (sub-is (pos (C / 10)) (pos LN8)) ez (lit≤ tt) high;
+          leaf-high K tens spare e t C (C / tens) LN8 (3 * L30) F c z ht (lt-div-mul-add {a = C} {b = tens} (lit≤ tt)) ec ez (lit≤ tt) high;
     }
 
 -- ---- a fixed-point number: y halved j times is m, rounded down, from 1 to 2
@@ -183,10 +202,10 @@ none f y low high e =
       m-high = high;
       under = omega (arith, one-mul y);
       over = omega (arith, one-mul (y + 1));
-      value = omega (arith, e, zero-mul LN2);
+      value = omega (arith, e, zero-mul lnTwo);
     }
 
-one-more : (f y : ℕ) → lnHalved (suc f) y ≡ LN2 + lnHalved f (y / 2) → Halves f (y / 2) → Halves (suc f) y
+one-more : (f y : ℕ) → lnHalved (suc f) y ≡ lnTwo + lnHalved f (y / 2) → Halves f (y / 2) → Halves (suc f) y
 unfolding coarse
 one-more f y e h =
     let P : ℕ = 2 ^ h .j in
@@ -198,7 +217,7 @@ one-more f y e h =
       m-high = h .m-high;
       under = omega (arith, h .under, ap (λ (t : ℕ). t * h .m) (pow-succ' 2 (h .j)), mul-assoc 2 (2 ^ h .j) (h .m));
       over = omega (arith, h .over, ap (λ (t : ℕ). t * (h .m + 1)) (pow-succ' 2 (h .j)), mul-assoc 2 (2 ^ h .j) (h .m + 1));
-      value = omega (arith, e, h .value, suc-mul (h .j) LN2);
+      value = omega (arith, e, h .value, suc-mul (h .j) lnTwo);
     }
 
 step : (f y : ℕ) → E9 ≤ y → (2 * E9 ≤ y → Halves f (y / 2)) → Halves (suc f) y
@@ -217,19 +236,19 @@ halves (suc f) y low high = step f y low (λ h. halves f (y / 2) (omega arith) (
 raise : (j M : ℕ) → E30 ≤ M → E30 ≤ 2 ^ j * M
 raise j M h = le-trans h (le-trans (le-of-eq (sym (one-mul M))) (mul-le-mul-right M (pow-pos j)))
 
--- what the coarse value and the exact logarithm at X are apart, where X is R = 2^j P/Q up to c units of 10^-10
+-- what the coarse value and the exact logarithm at X are apart, where X is R = 2^j P/Q up to c units
 finish :
-    (e t c C F G : ℕ) (z : ℤ) → t + c + 44 ≤ 10 * e → 2 ≤ e → up z + 3 * L30 ≡ dn z + F
-    → C * K20 ≤ G + 500 → G ≤ (C + (41 + t)) * K20 → G ≤ F + 10000000000000 → F ≤ G + c * K20
-    → NearZ K21 e (pos (C / 10) -ℤ pos LN8) z
+    (e t c C F G : ℕ) (z : ℤ) → short + t + c + tens ≤ tens * e + spare + 1 → 2 ≤ e → up z + 3 * L30 ≡ dn z + F
+    → C * K ≤ G + 500 → G ≤ (C + (short + t)) * K → G ≤ F + 10000000000000 → F ≤ G + c * K
+    → NearZ K21 e (pos (C / tens) -ℤ pos LN8) z
 finish e t c C F G z room he ez low high GF FG =
-    leaf e (41 + t + c) C F z (omega arith) he ez (below K20 (lit≤ tt)) (above K20 FG high)
+    leaf e (short + t + c) C F z room he ez (below K (lit≤ tt) low) (above K FG high)
   where
-    below : (K : ℕ) → 10000000000500 ≤ K → C * K20 ≤ F + K
-    below K h = omega (arith, low, GF)
+    below : (k : ℕ) → 10000000000500 ≤ k → C * k ≤ G + 500 → C * k ≤ F + k
+    below k h l = omega (arith, l, GF)
 
-    above : (K : ℕ) → F ≤ G + c * K → G ≤ (C + (41 + t)) * K → F ≤ (C + (41 + t + c)) * K
-    above K h k = omega (arith, add-mul C (41 + t + c) K, add-mul C (41 + t) K, add-mul (41 + t) c K)
+    above : (k : ℕ) → F ≤ G + c * k → G ≤ (C + (short + t)) * k → F ≤ (C + (short + t + c)) * k
+    above k h l = omega (arith, add-mul C (short + t + c) k, add-mul C (short + t) k, add-mul (short + t) c k)
 
 -- m, in units of 10^-9, at 10^-30
 fine : (m : ℕ) → m * E30 / E9 ≡ m * K21
@@ -246,7 +265,7 @@ one-part P m y K N h k =
 
 fixed-at :
     (x j m : ℕ) → x < 65536 * E9 → j ≤ 18 → E9 ≤ m → m < 2 * E9 → 2 ^ j * m ≤ 8 * x → 8 * x < 2 ^ j * (m + 1)
-    → NearZ K21 7 (pos (coarse j m E9 / 10) -ℤ pos LN8) (lnE (x * K21))
+    → NearZ K21 7 (pos (coarse j m E9 / tens) -ℤ pos LN8) (lnE (x * K21))
 fixed-at x j m top hj m-low m-high under over =
     let X : ℕ = 8 * (x * K21) in
     let R : ℕ = 2 ^ j * (m * K21) in
@@ -259,13 +278,13 @@ fixed-at x j m top hj m-low m-high under over =
     let R-one : E30 ≤ R = raise j (m * K21) one in
     let X-one : E30 ≤ X = le-trans R-one below in
     let X-top : X < 2 ^ 201 * E30 = le-trans-lt (mul-le-mul-left 8 (mul-le-mul-right K21 (le-of-lt top))) in
-    finish 7 11 12 (coarse j m E9) (lnFrom E30 60 L30 X) (lnFrom E30 60 L30 R) (lnE (x * K21)) (lit≤ tt) (lit≤ tt)
+    finish 7 11 12 (coarse j m E9) (lnFrom E30 60 L30 X) (lnFrom E30 60 L30 R) (lnE (x * K21)) fixed-room (lit≤ tt)
     (lnE-parts 3 (x * K21) (lit≤ tt) X-one)
-    (subst (λ (t : ℕ). coarse j m E9 * K20 ≤ lnFrom E30 60 L30 (2 ^ j * t) + 500) (fine m) (coarse-low j m E9 (lit≤ tt) m-low m-high))
-    (subst (λ (t : ℕ). lnFrom E30 60 L30 (2 ^ j * t) ≤ (coarse j m E9 + (41 + 11)) * K20) (fine m)
+    (subst (λ (t : ℕ). coarse j m E9 * K ≤ lnFrom E30 60 L30 (2 ^ j * t) + 500) (fine m) (coarse-low j m E9 (lit≤ tt) m-low m-high))
+    (subst (λ (t : ℕ). lnFrom E30 60 L30 (2 ^ j * t) ≤ (coarse j m E9 + (short + 11)) * K) (fine m)
     (coarse-high j m E9 11 (lit≤ tt) m-low m-high (omega arith)))
     (more _ _ (lnFrom-mono E30 59 L30 (lit≤ tt) L30-unit (lit≤ tt) R X R-one below))
-    (lnFrom-near E10 K20 10 12 refl (lit≤ tt) (lit≤ tt) R X R-one X-one X-top wide)
+    (units _ _ (lnFrom-near E10 K20 10 12 refl (lit≤ tt) (lit≤ tt) R X R-one X-one X-top wide))
   where
     le-trans-lt : {a : ℕ} → a ≤ 8 * (65536 * E9 * K21) → a < 2 ^ 201 * E30
     le-trans-lt h = lt-of-le-of-lt h (lit< tt)
@@ -273,12 +292,15 @@ fixed-at x j m top hj m-low m-high under over =
     more : (a b : ℕ) → a ≤ b → a ≤ b + 10000000000000
     more a b h = omega arith
 
+    units : (a b : ℕ) → a ≤ b + 12 * K20 → a ≤ b + 12 * K
+    units a b h = omega arith
+
 -- ln x within 7 units of 10^-9, for x from 1/8 up to 65536
 pub lnFixed-near : (x : ℕ) → E9 ≤ 8 * x → x < 65536 * E9 → NearZ K21 7 (lnFixed x) (lnE (x * K21))
 unfolding lnFixed
 lnFixed-near x low high = go (halves 18 (8 * x) low (omega arith))
   where
-    go : Halves 18 (8 * x) → NearZ K21 7 (pos (lnHalved 18 (8 * x) / 10) -ℤ pos LN8) (lnE (x * K21))
+    go : Halves 18 (8 * x) → NearZ K21 7 (pos (lnHalved 18 (8 * x) / tens) -ℤ pos LN8) (lnE (x * K21))
     go h = rw (h .value) (fixed-at x (h .j) (h .m) high (h .j-le) (h .m-low) (h .m-high) (h .under) (h .over))
 
 -- ---- a quotient: q doubled j times is at most p and more than half of it
@@ -297,10 +319,10 @@ at-once f p q low high e =
       j-le = omega arith;
       low = omega (arith, one-mul q);
       high = omega (arith, one-mul q);
-      value = omega (arith, e, zero-mul LN2, ap (λ (t : ℕ). lnRatio p t) (one-mul q));
+      value = omega (arith, e, zero-mul lnTwo, ap (λ (t : ℕ). lnRatio p t) (one-mul q));
     }
 
-once-more : (f p q : ℕ) → lnDoubled (suc f) p q ≡ LN2 + lnDoubled f p (2 * q) → Doubles f p (2 * q) → Doubles (suc f) p q
+once-more : (f p q : ℕ) → lnDoubled (suc f) p q ≡ lnTwo + lnDoubled f p (2 * q) → Doubles f p (2 * q) → Doubles (suc f) p q
 unfolding coarse
 once-more f p q e h =
     let same : 2 ^ h .j * (2 * q) ≡ 2 ^ suc (h .j) * q =
@@ -310,14 +332,14 @@ once-more f p q e h =
       j-le = omega (arith, h .j-le);
       low = omega (arith, h .low, same);
       high = omega (arith, h .high, same);
-      value = omega (arith, e, h .value, suc-mul (h .j) LN2, ap (λ (t : ℕ). lnRatio p t) same);
+      value = omega (arith, e, h .value, suc-mul (h .j) lnTwo, ap (λ (t : ℕ). lnRatio p t) same);
     }
 
 doubling : (f p q : ℕ) → q ≤ p → (2 * q ≤ p → Doubles f p (2 * q)) → Doubles (suc f) p q
 doubling f p q low ih = either (decLe (2 * q) p)
   where
     either : Dec (2 * q ≤ p) → Doubles (suc f) p q
-    either (yes h) = once-more f p q (doubled-more f q h ∙ ap (λ (t : ℕ). LN2 + lnDoubled f p t) (mul-comm q 2)) (ih h)
+    either (yes h) = once-more f p q (doubled-more f q h ∙ ap (λ (t : ℕ). lnTwo + lnDoubled f p t) (mul-comm q 2)) (ih h)
     either (no g) = let h : p < 2 * q = omega arith in at-once (suc f) p q low h (doubled-last (suc f) q h)
 
 doubles : (f p q : ℕ) → q ≤ p → p < 2 ^ suc f * q → Doubles f p q
@@ -351,7 +373,7 @@ apart-by x y hx hy top h =
 
 quotient-at :
     (p q j : ℕ) → 0 < q → q ≤ 8 * p → p ≤ 8 * q → j ≤ 6 → 2 ^ j * q ≤ 8 * p → 8 * p < 2 * (2 ^ j * q)
-    → NearZ K21 5 (pos (coarse j (8 * p) (2 ^ j * q) / 10) -ℤ pos LN8) (lnE (p * E30 / q))
+    → NearZ K21 5 (pos (coarse j (8 * p) (2 ^ j * q) / tens) -ℤ pos LN8) (lnE (p * E30 / q))
 quotient-at p q j hq low high hj Q-low Q-high =
     let a : ℕ = p * E30 / q in
     let T : ℕ = 2 ^ j in
@@ -367,7 +389,7 @@ quotient-at p q j hq low high hj Q-low Q-high =
     let X-one : E30 ≤ 8 * a = eighth a (le-div-iff-mul-le hq .1 (part p q low)) in
     let X-top : 8 * a ≤ 65 * E30 = room (8 * a) a (omega arith) (div-le-of-le-mul q (le-trans (mul-le-mul-right E30 high) (le-of-eq (turn q E30)))) in
     let R-top : T * M ≤ 65 * E30 = room (T * M) a (near .1) (div-le-of-le-mul q (le-trans (mul-le-mul-right E30 high) (le-of-eq (turn q E30)))) in
-    finish 5 4 1 (coarse j (8 * p) Q) (lnFrom E30 60 L30 (8 * a)) (lnFrom E30 60 L30 (T * M)) (lnE a) (lit≤ tt) (lit≤ tt)
+    finish 5 4 1 (coarse j (8 * p) Q) (lnFrom E30 60 L30 (8 * a)) (lnFrom E30 60 L30 (T * M)) (lnE a) quotient-room (lit≤ tt)
     (lnE-parts 3 a (lit≤ tt) X-one)
     (coarse-low j (8 * p) Q hQ Q-low Q-high)
     (coarse-high j (8 * p) Q 4 hQ Q-low Q-high (omega arith))
@@ -389,7 +411,7 @@ quotient-at p q j hq low high hj Q-low Q-high =
     loose : (n : ℕ) → n + 2 * 10000000000 ≤ n + 10000000000000
     loose n = omega arith
 
-    loose' : (n : ℕ) → n + 2 * 10000000000 ≤ n + 1 * K20
+    loose' : (n : ℕ) → n + 2 * 10000000000 ≤ n + 1 * K
     loose' n = omega arith
 
 -- ln (p/q) within 5 units of 10^-9, for p/q from 1/8 to 8
@@ -397,5 +419,5 @@ pub lnQuotient-near : (p q : ℕ) → 0 < q → q ≤ 8 * p → p ≤ 8 * q → 
 unfolding lnQuotient
 lnQuotient-near p q hq low high = go (doubles 6 (8 * p) q low (omega arith))
   where
-    go : Doubles 6 (8 * p) q → NearZ K21 5 (pos (lnDoubled 6 (8 * p) q / 10) -ℤ pos LN8) (lnE (p * E30 / q))
+    go : Doubles 6 (8 * p) q → NearZ K21 5 (pos (lnDoubled 6 (8 * p) q / tens) -ℤ pos LN8) (lnE (p * E30 / q))
     go h = rw (h .value) (quotient-at p q (h .j) hq low high (h .j-le) (h .low) (h .high))

@@ -26,13 +26,6 @@ K21 = 1_000000_000000_000000_000
 abbrev pub K20 : ℕ
 K20 = 100_000000_000000_000000
 
--- ln 2 in units of 10^-10 and 3 ln 2 in units of 10^-9, rounded down
-abbrev pub LN2 : ℕ
-LN2 = 6931471805
-
-abbrev pub LN8 : ℕ
-LN8 = 2079441541
-
 -- ---- signed numbers
 -- a b / d, rounded toward zero
 unfoldable pub mulDiv : ℤ → ℤ → ℤ → ℤ
@@ -44,54 +37,83 @@ nearest (pos n) d = pos ((n + d / 2) / d)
 nearest (negsuc n) d = negℤ (pos ((suc n + d / 2) / d))
 
 -- ---- the logarithm
+-- inside it one stands in units of 10^-10, and so does ln 2, rounded down
+abbrev pub lnOne : ℕ
+lnOne = E10
+
+abbrev pub lnTwo : ℕ
+lnTwo = 6931471805
+
+-- as many terms as leave out at most one such unit
+abbrev pub lnCount : ℕ
+lnCount = 10
+
 -- ln (p/q) for p/q from 1 to 2, in units of 10^-10
 unfoldable pub lnRatio : ℕ → ℕ → ℕ
 unfolding lnSeries
-lnRatio p q = lnSeries E10 10 ((p - q) * E10 / (p + q))
+lnRatio p q = lnSeries lnOne lnCount ((p - q) * lnOne / (p + q))
 
--- the same for small whole numbers, more precise: z² is a quotient of two of them, so that each power of z stands in units of 10^-12;
--- twelve terms
+-- the same for small whole numbers, more precise: z² is a quotient of two of them, so that each power of z stands in units of 10^-12, and
+-- the terms leave out at most one of these
+abbrev pub narrowCount : ℕ
+narrowCount = 12
+
 unfoldable pub lnNarrow : ℕ → ℕ → ℕ
 unfolding lnTerms
-lnNarrow p q = 2 * lnTerms ((p + q) * (p + q)) ((p - q) * (p - q)) ((p - q) * E12 / (p + q)) 1 12 / 100
+lnNarrow p q = 2 * lnTerms ((p + q) * (p + q)) ((p - q) * (p - q)) ((p - q) * E12 / (p + q)) 1 narrowCount / 100
 
 -- ln y, y in units of 10^-9 from 1 up, halved f times at most; in units of 10^-10
 unfoldable pub lnHalved : ℕ → ℕ → ℕ
 unfolding lnRatio
 lnHalved zero y = lnRatio y E9
-lnHalved (suc f) y = elim (ltb y (2 * E9)) [ true ↦ lnRatio y E9 | false ↦ LN2 + lnHalved f (y / 2) ]
+lnHalved (suc f) y = elim (ltb y (2 * E9)) [ true ↦ lnRatio y E9 | false ↦ lnTwo + lnHalved f (y / 2) ]
+
+-- 3 ln 2 in units of 10^-9, rounded down
+abbrev pub LN8 : ℕ
+LN8 = 2079441541
 
 -- ln x, x in units of 10^-9 from 1/8 up: three powers of two are put in and taken out again
 unfoldable pub lnFixed : ℕ → ℤ
 unfolding lnHalved
-lnFixed x = pos (lnHalved 18 (8 * x) / 10) -ℤ pos LN8
+lnFixed x = pos (lnHalved 18 (8 * x) / (lnOne / E9)) -ℤ pos LN8
 
 -- ln (p/q) for p/q from 1 up, q doubled f times at most; in units of 10^-10
 unfoldable pub lnDoubled : ℕ → ℕ → ℕ → ℕ
 unfolding lnRatio
 lnDoubled zero p q = lnRatio p q
-lnDoubled (suc f) p q = elim (ltb p (2 * q)) [ true ↦ lnRatio p q | false ↦ LN2 + lnDoubled f p (2 * q) ]
+lnDoubled (suc f) p q = elim (ltb p (2 * q)) [ true ↦ lnRatio p q | false ↦ lnTwo + lnDoubled f p (2 * q) ]
 
 -- ln (p/q) for whole numbers p and q, p/q from 1/8 to 8
 unfoldable pub lnQuotient : ℕ → ℕ → ℤ
 unfolding lnDoubled
-lnQuotient p q = pos (lnDoubled 6 (8 * p) q / 10) -ℤ pos LN8
+lnQuotient p q = pos (lnDoubled 6 (8 * p) q / (lnOne / E9)) -ℤ pos LN8
 
 -- ---- the exponential
--- e^r, r from 0 to ln 2, both in units of 10^-10: twelve terms, of which the third is made from a quarter of r so that it fits 64 bits
+-- inside it one stands in units of 10^-10, and so does ln 2, rounded down
+abbrev pub expOne : ℕ
+expOne = E10
+
+abbrev pub expTwo : ℕ
+expTwo = 6931471805
+
+-- as many terms as leave out at most one such unit
+abbrev pub expCount : ℕ
+expCount = 12
+
+-- e^r, r from 0 to ln 2, both in units of 10^-10; the third term is made from a quarter of r so that it fits 64 bits
 unfoldable pub expUnit : ℕ → ℕ
 unfolding expTerms
-expUnit r = E10 + r + expTerms E10 r (r / 4 * r / (E10 / 2)) 3 10
+expUnit r = expOne + r + expTerms expOne r (r / 4 * r / (expOne / 2)) 3 (expCount - 2)
 
 -- e^x in units of 10^-10, y being x + 32 ln 2 in units of 10^-10
 unfoldable pub expShifted : ℕ → ℕ
 unfolding expUnit
-expShifted y = 2 ^ (y / LN2) * expUnit (y % LN2) / 2 ^ 32
+expShifted y = 2 ^ (y / expTwo) * expUnit (y % expTwo) / 2 ^ 32
 
 -- e^x in units of 10^-10, x in units of 10^-9
 unfoldable pub expFixed : ℤ → ℕ
 unfolding expShifted
-expFixed x = expShifted (10 * up x + 32 * LN2 - 10 * dn x)
+expFixed x = expShifted (expOne / E9 * up x + 32 * expTwo - expOne / E9 * dn x)
 
 -- ---- sine and cosine of whole degrees, in units of 10^-9
 -- an angle of d degrees in radians; pi in units of 10^-16

@@ -16,7 +16,7 @@ use Rattle.model.specs.declared.Fine.{Fine}
 use Rattle.fixed.proofs.SignedLaws.{nearest-half}
 use Rattle.exact.proofs.ExpExact.{expE-near, expE-mono}
 use Rattle.model.specs.FineNear.{minusFifteen, Between, RootNear, FineNear}
-use Rattle.model.specs.Accuracy.{Exact, Accurate}
+use Rattle.model.specs.Accuracy.{Exact, sixthPlace, medianParts, NearSixth, NearMedian, Accurate}
 use Rattle.exact.proofs.RelLaws.{chain}
 use Rattle.exact.proofs.NearLaws.{near→within, near-wide}
 use Rattle.model.specs.Equations.{most, E24, E27}
@@ -124,24 +124,22 @@ module _ (s x : ℤ) (n : NearZ K21 500 s x) (b : Between minusFifteen (pos (13 
   value-is : most 1 (expFixed s) ≡ expFixed s
   value-is = most-by (λ (n : ℕ). n ≡ expFixed s) 1 (expFixed s) (λ k. omega (arith, value-one)) (λ k. refl)
 
-  pub median-one : 1 ≤ most 1 (expFixed s)
-  median-one = subst (λ (n : ℕ). 1 ≤ n) (sym value-is) value-one
-
-  pub median-low : 500000 * (most 1 (expFixed s) * K20) ≤ 500000 * expE x + 500000 * K20 + expE x
-  median-low =
-      subst (λ (n : ℕ). 500000 * (n * K20) ≤ 500000 * expE x + 500000 * K20 + expE x) (sym value-is)
-      (go (expFixed s * K20) (expE x) least (valued .low))
+  pub median-reported : NearMedian (most 1 (expFixed s)) (expE x)
+  median-reported =
+      subst (λ (n : ℕ). NearMedian n (expE x)) (sym value-is)
+      (record {
+        least = value-one;
+        low = low (expFixed s * K20) (expE x) least (valued .low);
+        high = high (expFixed s * K20) (expE x) (valued .high);
+      })
     where
-      go : (p y : ℕ) → 3000 * K20 ≤ y → p * E9 ≤ y * (E9 + 513) + K20 * (E9 + 11) → 500000 * p ≤ 500000 * y + 500000 * K20 + y
-      go p y k l = omega arith
+      low :
+          (p y : ℕ) → 3000 * K20 ≤ y → p * E9 ≤ y * (E9 + 513) + K20 * (E9 + 11)
+          → medianParts * p ≤ medianParts * y + medianParts * K20 + y
+      low p y k l = omega arith
 
-  pub median-high : 500000 * expE x ≤ 500000 * (most 1 (expFixed s) * K20) + 500000 * K20 + expE x
-  median-high =
-      subst (λ (n : ℕ). 500000 * expE x ≤ 500000 * (n * K20) + 500000 * K20 + expE x) (sym value-is)
-      (go (expFixed s * K20) (expE x) (valued .high))
-    where
-      go : (p y : ℕ) → y * E9 ≤ p * (E9 + 513) + K20 * (E9 + 514) → 500000 * y ≤ 500000 * p + 500000 * K20 + y
-      go p y l = omega arith
+      high : (p y : ℕ) → y * E9 ≤ p * (E9 + 513) + K20 * (E9 + 514) → medianParts * y ≤ medianParts * p + medianParts * K20 + y
+      high p y l = omega arith
 
   -- and it is below 2^53
   pub median-fits : most 1 (expFixed s) < 2 ^ 53
@@ -154,9 +152,9 @@ module _ (s x : ℤ) (n : NearZ K21 500 s x) (b : Between minusFifteen (pos (13 
       go p k = omega arith
 
 -- ---- a row
-pub sigma-reported : (v s : ℕ) → RootNear v s → NearZ E24 1 (pos (sigmaOf v)) (pos s)
+pub sigma-reported : (v s : ℕ) → RootNear v s → NearSixth (pos (sigmaOf v)) (pos s)
 sigma-reported v s n =
-    subst (λ (t : ℕ). NearZ E24 1 (pos (sigmaOf v)) (pos t)) (sym (n .is)) (sigma-near 290 v (n .under) (lit≤ tt) (n .least) (n .near))
+    subst (λ (t : ℕ). NearSixth (pos (sigmaOf v)) (pos t)) (sym (n .is)) (sigma-near 290 v (n .under) (lit≤ tt) (n .least) (n .near))
 
 -- the fine ln median of a row, as near as is asked above
 fine-ln : (e : Exact) (f : Fine) → FineNear e f → NearZ K21 500 (f .ln) (e .ln)
@@ -169,22 +167,16 @@ report-fits e f n = median-fits (f .ln) (e .ln) (fine-ln e f n) (n .ln-between)
 pub report-accurate : (e : Exact) (f : Fine) → FineNear e f → Accurate e (report f)
 unfolding report
 report-accurate e f n =
-    let s : ℤ = f .ln in
-    let x : ℤ = e .ln in
-    let m = sym (n .median-is) in
-    let p : ℕ = most 1 (expFixed s) in
-    let near : NearZ K21 500 s x = fine-ln e f n in
+    let near : NearZ K21 500 (f .ln) (e .ln) = fine-ln e f n in
     record {
       ln-near = report-near (lit≤ tt) near;
-      median-one = median-one s x near (n .ln-between);
-      median-low =
-          subst (λ (y : ℕ). 500000 * (p * K20) ≤ 500000 * y + 500000 * K20 + y) m (median-low s x near (n .ln-between));
-      median-high =
-          subst (λ (y : ℕ). 500000 * y ≤ 500000 * (p * K20) + 500000 * K20 + y) m (median-high s x near (n .ln-between));
+      median-near =
+          subst (λ (y : ℕ). NearMedian (most 1 (expFixed (f .ln))) y) (sym (n .median-is))
+          (median-reported (f .ln) (e .ln) near (n .ln-between));
       intra-near = sigma-reported (f .intra) (e .intra) (n .intra);
       inter-near =
-          subst (λ (y : ℕ). NearZ E24 1 (pos (f .t * 1000)) (pos y)) (sym (n .inter-is))
-          (near-wide E24 0 1 (pos (f .t * 1000)) (pos (f .t * E27)) (lit≤ tt) (near-exact E24 1000 (pos (f .t))));
+          subst (λ (y : ℕ). NearSixth (pos (f .t * 1000)) (pos y)) (sym (n .inter-is))
+          (near-wide E24 0 sixthPlace (pos (f .t * 1000)) (pos (f .t * E27)) (lit≤ tt) (near-exact E24 1000 (pos (f .t))));
       total-near = sigma-reported (f .total) (e .total) (n .total);
       arbitrary-near = sigma-reported (f .arbitrary) (e .arbitrary) (n .arbitrary);
     }

@@ -1,9 +1,11 @@
--- Demand 3: how near a reported row lies to exact values, and the figures of which it is promised. Definitions only.
+-- Demand 3, with the bounds of 02's K5: how near a reported row lies to exact values, and the figures of which it is promised. Definitions
+-- only.
 use Prim.Native.Nat.{ℕ, _+_, _*_, _≤_}
 use lib.IntN.{ℤ, pos}
 use Rattle.exact.specs.Near.{NearZ}
 use Rattle.model.specs.declared.Scenario.{Scenario}
 use Rattle.model.specs.declared.Row.{Row}
+use Rattle.model.specs.declared.Shown.{Shown}
 use Rattle.model.specs.Equations.{E24, E20, lnMedian, median, intra, inter, total, arbitrary}
 
 -- the ranges of an accepted request's completed figures
@@ -41,14 +43,36 @@ exactOf i x =
       arbitrary = arbitrary i x;
     }
 
--- ln median and the sigmas, in millionths, within one of the exact value; the median, in units of 10^-10, at least 1 and within
--- 1 + Y/500000 of the exact Y
+-- ---- how near: the bounds of 02's K5, which stand here and nowhere else
+-- ln median and each sigma: so many in the sixth place
+abbrev pub sixthPlace : ℕ
+sixthPlace = 1
+
+-- the median: one unit, and one part of it in so many
+abbrev pub medianParts : ℕ
+medianParts = 500000
+
+-- a reported number, in millionths, is that near an exact one
+abbrev pub NearSixth : ℤ → ℤ → Type 0
+NearSixth a e = NearZ E24 sixthPlace a e
+
+-- a reported median, in units of 10^-10, is at least 1 and that near the exact y
+pub record NearMedian (m y : ℕ) : Type 0 where
+  pub least : 1 ≤ m
+  pub low : medianParts * (m * E20) ≤ medianParts * y + medianParts * E20 + y
+  pub high : medianParts * y ≤ medianParts * (m * E20) + medianParts * E20 + y
+
+-- a reported row, all six figures
 pub record Accurate (e : Exact) (r : Row) : Type 0 where
-  pub ln-near : NearZ E24 1 (r .ln) (e .ln)
-  pub median-one : 1 ≤ r .median
-  pub median-low : 500000 * (r .median * E20) ≤ 500000 * e .median + 500000 * E20 + e .median
-  pub median-high : 500000 * e .median ≤ 500000 * (r .median * E20) + 500000 * E20 + e .median
-  pub intra-near : NearZ E24 1 (pos (r .intra)) (pos (e .intra))
-  pub inter-near : NearZ E24 1 (pos (r .inter)) (pos (e .inter))
-  pub total-near : NearZ E24 1 (pos (r .total)) (pos (e .total))
-  pub arbitrary-near : NearZ E24 1 (pos (r .arbitrary)) (pos (e .arbitrary))
+  pub ln-near : NearSixth (r .ln) (e .ln)
+  pub median-near : NearMedian (r .median) (e .median)
+  pub intra-near : NearSixth (pos (r .intra)) (pos (e .intra))
+  pub inter-near : NearSixth (pos (r .inter)) (pos (e .inter))
+  pub total-near : NearSixth (pos (r .total)) (pos (e .total))
+  pub arbitrary-near : NearSixth (pos (r .arbitrary)) (pos (e .arbitrary))
+
+-- what a sheet shows of it
+pub record ShownAccurate (e : Exact) (s : Shown) : Type 0 where
+  pub ln-near : NearSixth (s .ln) (e .ln)
+  pub median-near : NearMedian (s .median) (e .median)
+  pub sigma-near : NearSixth (pos (s .sigma)) (pos (e .total))

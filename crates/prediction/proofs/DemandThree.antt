@@ -1,5 +1,5 @@
--- Demand 3 for a request: every row of an accepted request's spectrum is as near the exact values as `Accurate` says, and a refused
--- one has its number and zeros in all 24 rows. So no spectrum given always, no row copied and no row left zero passes. Assumes
+-- Demand 3 for a request: every row of an accepted request's spectrum is as near the exact values as `Accurate` says, and so is what a
+-- sheet shows of it; a refused one has its number and zeros in all 24 rows. So no spectrum given always, no row copied and no row left zero passes. Assumes
 -- nothing.
 use Prim.Native.Nat.{ℕ, _*_, _<_}
 use mathlib.Core.Path.{_≡_, refl, sym, ap, subst}
@@ -10,7 +10,7 @@ use Rattle.outcome.specs.declared.Completion.the-variants as C
 use Rattle.outcome.specs.Answers.{completionOf, numberOf}
 use Rattle.model.specs.declared.Row.{Row}
 use Rattle.model.specs.Rows.{shownOf, noRow, noShown}
-use Rattle.model.specs.Accuracy.{exactOf, Accurate}
+use Rattle.model.specs.Accuracy.{Exact, exactOf, Accurate, ShownAccurate}
 use Rattle.model.specs.Equations.{E24}
 use Rattle.model.proofs.Demand.{demand-3, inter-exact}
 use Rattle.prediction.specs.declared.Spectrum.{Spectrum}
@@ -66,6 +66,16 @@ shown-number r = refl
 pub shown-at : (r : Request) (k : ℕ) → getD (shownSpectrumOf r .rows) k noShown ≡ shownOf (getD (spectrumOf r .rows) k noRow)
 unfolding shownSpectrumOf shownSpectrum
 shown-at r k = shown-row (spectrumOf r .rows) k
+
+-- as near as the rows
+pub shown-near : (e : Exact) (r : Row) → Accurate e r → ShownAccurate e (shownOf r)
+unfolding shownOf
+shown-near e r a = record { ln-near = a .ln-near; median-near = a .median-near; sigma-near = a .total-near }
+
+pub accepted-shown :
+    (r : Request) (c : Completed) (k : ℕ) → completionOf r ≡ C.Done c → k < 24
+    → ShownAccurate (exactOf k (scenarioOf c)) (getD (shownSpectrumOf r .rows) k noShown)
+accepted-shown r c k e h = rw (shown-at r k) (shown-near (exactOf k (scenarioOf c)) (getD (spectrumOf r .rows) k noRow) (accepted-rows r c k e h))
 
 pub shown-small : (r : Row) → Small r → ShownSmall (shownOf r)
 unfolding shownOf

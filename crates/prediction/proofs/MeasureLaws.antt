@@ -1,5 +1,5 @@
--- The answer for one measure is that of the spectrum's row, nothing lost; `noMeasure` is given exactly when the request is accepted
--- and the number is no measure's. Assumes nothing.
+-- The answer for one measure is that of the spectrum's row, nothing lost, and so as near the exact values as demand 3 asks; `noMeasure` is
+-- given exactly when the request is accepted and the number is no measure's. Assumes nothing.
 use Prim.Native.Nat.{ℕ, _≤_, _<_}
 use mathlib.Core.Path.{_≡_, refl, sym, ap, _∙_}
 use mathlib.Core.Bool.{Bool, true, false}
@@ -20,14 +20,16 @@ use Rattle.outcome.proofs.ExactlyWhen.{accepted-by, measure-unread}
 use Rattle.tables.specs.Tables.{measures}
 use Rattle.model.specs.declared.Row.{Row}
 use Rattle.model.specs.declared.Shown.{Shown}
+use Rattle.model.specs.Accuracy.{Exact, exactOf, ShownAccurate}
 use Rattle.model.specs.Fixed.{rowFixed}
 use Rattle.model.specs.Rows.{shownOf, noRow}
+use Rattle.prediction.specs.declared.measure.OneMeasure.{OneMeasure}
 use Rattle.prediction.specs.declared.measure.OneMeasure.the-variants as M
 use Rattle.prediction.specs.Spectra.{scenarioOf, spectrumOf}
-use Rattle.prediction.specs.Measures.{shownValue, measureFor, measureOf, Tells, told}
+use Rattle.prediction.specs.Measures.{shownValue, measureFor, measureOf, Tells, told, MeasureNear, measure-near}
 use Rattle.prediction.proofs.Completed.{accepted}
 use Rattle.prediction.proofs.RowLaws.{row-is, spectrum-done, by-completion}
-use Rattle.prediction.proofs.DemandThree.{rows-small, shown-small}
+use Rattle.prediction.proofs.DemandThree.{accepted-rows, rows-small, shown-near, shown-small}
 use Rattle.prediction.proofs.FloatLaws.{float-is}
 
 -- ---- the cases
@@ -63,6 +65,18 @@ measure-whole r c k e h =
     let n = shown-small row (rows-small r k h) in
     rw (measure-row r c k e h)
     (told (float-is (pos (shownOf row .median)) (omega (arith, n .median))) (float-is (pos (shownOf row .sigma)) (omega (arith, n .sigma))))
+
+-- ---- demand 3
+near-told : (e : Exact) (s : Shown) (a : OneMeasure) → ShownAccurate e s → Tells s a → MeasureNear e a
+near-told e s (M.Value y z) n (told f g) = measure-near (s .median) (s .sigma) f g (n .median-near) (n .sigma-near)
+
+pub accepted-measure :
+    (r : Request) (c : Completed) (k : ℕ) → completionOf r ≡ C.Done c → k < measures
+    → MeasureNear (exactOf k (scenarioOf c)) (measureOf r k)
+accepted-measure r c k e h =
+    let row = getD (spectrumOf r .rows) k noRow in
+    near-told (exactOf k (scenarioOf c)) (shownOf row) (measureOf r k)
+    (shown-near (exactOf k (scenarioOf c)) row (accepted-rows r c k e h)) (measure-whole r c k e h)
 
 -- ---- exactly when
 same-refusal : (m n : ℕ) → M.Refused m ≡ M.Refused n → m ≡ n

@@ -11,6 +11,7 @@ use Rattle.outcome.specs.declared.Completion.the-variants as C
 use Rattle.outcome.specs.Answers.{completionOf}
 use Rattle.tables.specs.Tables.{measures}
 use Rattle.model.specs.declared.Shown.{Shown}
+use Rattle.model.specs.Accuracy.{Exact, NearSixth, NearMedian}
 use Rattle.model.specs.Fixed.{rowFixed}
 use Rattle.model.specs.Rows.{shownOf}
 use Rattle.prediction.specs.declared.measure.OneMeasure.{OneMeasure}
@@ -51,3 +52,9 @@ sigmaIn (M.Refused n) x = x
 -- it is a median and a sigma that are the whole numbers of what is shown: nothing is lost
 pub data Tells (s : Shown) : OneMeasure → Type 0 where
   told : {y z : Float} → Is y (pos (s .median)) → Is z (pos (s .sigma)) → Tells s (M.Value y z)
+
+-- it is a median and a sigma that are whole numbers as near the exact values as demand 3 asks
+pub data MeasureNear (e : Exact) : OneMeasure → Type 0 where
+  measure-near :
+      {y z : Float} (m s : ℕ) → Is y (pos m) → Is z (pos s) → NearMedian m (e .median) → NearSixth (pos s) (pos (e .total))
+      → MeasureNear e (M.Value y z)

@@ -6,7 +6,7 @@ use native.Mathlib.Nat.{le-trans, add-zero, mul-le-mul}
 use native.Mathlib.Omega.{arith}
 use lib.Dec.{lit≤}
 use Rattle.exact.specs.Series.{lnTerms}
-use Rattle.fixed.specs.Fixed.{E10, E12, lnRatio, lnNarrow}
+use Rattle.fixed.specs.Fixed.{E12, lnOne, lnCount, narrowCount, lnRatio, lnNarrow}
 use Rattle.exact.proofs.Quotients.{div-le, mul-small}
 use Rattle.exact.proofs.LnSeries.{lnTerms-mono}
 use Rattle.fixed.proofs.LnNarrow.{lnNarrow-top}
@@ -40,24 +40,24 @@ unfolding lnTerms
 turn-done S w z m N p d sum n e v =
     sym (add-zero sum) ∙ ap (λ (j : ℕ). sum + lnTerms S w p d j) (sym e) ∙ v .whole
 
-at-third : lnTerms E10 (E10 / 3 * (E10 / 3) / E10) (E10 / 3) 1 10 ≤ 3500000000
+at-third : lnTerms lnOne (lnOne / 3 * (lnOne / 3) / lnOne) (lnOne / 3) 1 lnCount ≤ 3500000000
 unfolding lnTerms
 at-third = lit≤ tt
 
--- ten terms, for z up to 1/3
-pub ln-most : {z : ℕ} → z ≤ E10 / 3 → lnTerms E10 (z * z / E10) z 1 10 ≤ 3500000000
-ln-most h = le-trans (lnTerms-mono E10 10 1 (div-le E10 (mul-le-mul h h)) h) at-third
+-- all of them, for z up to 1/3
+pub ln-most : {z : ℕ} → z ≤ lnOne / 3 → lnTerms lnOne (z * z / lnOne) z 1 lnCount ≤ 3500000000
+ln-most h = le-trans (lnTerms-mono lnOne lnCount 1 (div-le lnOne (mul-le-mul h h)) h) at-third
 
 -- ln (p/q) is twice what the loop sums
 pub ratio-is :
     (p q : ℕ)
-    → 2 * lnTerms E10 ((p - q) * E10 / (p + q) * ((p - q) * E10 / (p + q)) / E10) ((p - q) * E10 / (p + q)) 1 10 ≡ lnRatio p q
+    → 2 * lnTerms lnOne ((p - q) * lnOne / (p + q) * ((p - q) * lnOne / (p + q)) / lnOne) ((p - q) * lnOne / (p + q)) 1 lnCount ≡ lnRatio p q
 unfolding lnRatio
 ratio-is p q = refl
 
 -- the same of the more precise one, and how much the loop sums at most
 abbrev pub narrow : ℕ → ℕ → ℕ
-narrow p q = lnTerms ((p + q) * (p + q)) ((p - q) * (p - q)) ((p - q) * E12 / (p + q)) 1 12
+narrow p q = lnTerms ((p + q) * (p + q)) ((p - q) * (p - q)) ((p - q) * E12 / (p + q)) 1 narrowCount
 
 pub narrow-is : (p q : ℕ) → 2 * narrow p q / 100 ≡ lnNarrow p q
 unfolding lnNarrow

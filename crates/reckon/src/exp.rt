@@ -4,13 +4,13 @@ use crate::units::LN2;
 ghost use mathlib.Core.Path.{_≡_};
 ghost use Prim.Native.Nat.{_*_, _≤_, _<_};
 ghost use Rattle.exact.specs.Near.{up, dn};
-ghost use Rattle.fixed.specs.Fixed.{E10, LN2, expUnit, expFixed};
+ghost use Rattle.fixed.specs.Fixed.{expOne, expTwo, expUnit, expFixed};
 
 // e^r, r from 0 to ln 2, both in units of 10^-10: twelve terms. The third is made from a quarter of
 // r, since r r would not fit.
 fn exp_unit(r: u64) -> u64
-    requires { ⌜ r < LN2 ⌝ }
-    ensures { λ s. ⌜ (s ≡ expUnit r) × (s ≤ 2 * E10) ⌝ }
+    requires { ⌜ r < expTwo ⌝ }
+    ensures { λ s. ⌜ (s ≡ expUnit r) × (s ≤ 2 * expOne) ⌝ }
 {
     let mut term = r / 4 * r / (E10 / 2);
     let mut sum = E10 + r;

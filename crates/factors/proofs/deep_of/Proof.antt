@@ -11,7 +11,7 @@ use mir.Syntax.{w64}
 use mir.Val.{SFits, toZ, ofZ}
 use mir.Facts.{toZ-pos, toZ-ofZ}
 use Rattle.exact.proofs.Signed.{sfits, same-diff, sub-is, neg-up, neg-dn}
-use Rattle.fixed.specs.Fixed.{E9, E10, LN2, expShifted, expFixed}
+use Rattle.fixed.specs.Fixed.{E9, E10, expTwo, expShifted, expFixed}
 use Rattle.reckon.proofs.ExpTerms.{expUnit-most}
 use Rattle.model.specs.Fixed.{deepFixed}
 use Rattle.factors.proofs.deep_of.Statement.{statement}
@@ -44,11 +44,11 @@ cast-exp-fixed c = search needs
 -- ---- e^-n, n above 0 and at most 22, is at most 1: at least one of the 32 powers of two is missing
 below-one : (n : ℕ) → 0 < n → n ≤ 22000000000 → expFixed (negℤ (pos n)) ≤ E10
 unfolding expFixed expShifted
-below-one n h k = rw (neg-up (pos n), neg-dn (pos n)) (go (10 * 0 + 32 * LN2 - 10 * n) (omega arith))
+below-one n h k = rw (neg-up (pos n), neg-dn (pos n)) (go (10 * 0 + 32 * expTwo - 10 * n) (omega arith))
   where
-    go : (y : ℕ) → y < 32 * LN2 → expShifted y ≤ E10
+    go : (y : ℕ) → y < 32 * expTwo → expShifted y ≤ E10
     go y l =
-        let few : y / LN2 ≤ 31 = omega arith in
+        let few : y / expTwo ≤ 31 = omega arith in
         div-le-of-le-mul (2 ^ 32)
         (le-trans (mul-le-mul (pow-le-pow-right {n = 2} (lit≤ tt) few) (expUnit-most (le-of-lt (mod-lt y (lit≤ tt))))) (lit≤ tt))
 

@@ -6,7 +6,7 @@ use native.Mathlib.Nat.{le-trans, le-of-lt, div-le-self, add-zero}
 use native.Mathlib.Omega.{arith}
 use lib.Dec.{lit≤}
 use Rattle.exact.specs.Series.{expTerms}
-use Rattle.fixed.specs.Fixed.{E10, LN2, expUnit}
+use Rattle.fixed.specs.Fixed.{expOne, expTwo, expUnit}
 use Rattle.exact.proofs.Quotients.{div-le, mul-small}
 use Rattle.reckon.proofs.Fitting.{mul-fits}
 use Rattle.reckon.proofs.ExpTerms.{exp-term, third-mono, expUnit-most}
@@ -15,13 +15,13 @@ use Rattle.reckon.proofs.exp.exp_unit.Tie as tie
 
 -- the largest term of the loop: the third of the series at ln 2
 abbrev most : ℕ
-most = LN2 / 4 * LN2 / (E10 / 2)
+most = expTwo / 4 * expTwo / (expOne / 2)
 
 record Inv (r term sum k left : ℕ) : Type 0 where
   term-le : term ≤ most
   k-pos : 1 ≤ k
   k-le : k + left ≤ 100
-  whole : sum + expTerms E10 r term k left ≡ expUnit r
+  whole : sum + expTerms expOne r term k left ≡ expUnit r
 
 abbrev Inv-loop : tie.InvT-loop
 Inv-loop r term₀ sum₀ k₀ left₀ term sum k left = Inv r term sum k left
@@ -31,28 +31,28 @@ abbrev μ-loop : tie.MeasureT-loop
 
 step :
     (r term sum k left : ℕ) →
-    r ≤ LN2 →
+    r ≤ expTwo →
     0 < left →
     Inv r term sum k left →
-    Inv r (term * r / E10 / k) (sum + term) (k + 1) (left - 1)
+    Inv r (term * r / expOne / k) (sum + term) (k + 1) (left - 1)
 step r term sum k left h l v =
-    let next : term * r / E10 / k ≤ term = le-trans (div-le-self (term * r / E10) k) (mul-small E10 term (omega arith)) in
-    let first = exp-term E10 r term k left l in
+    let next : term * r / expOne / k ≤ term = le-trans (div-le-self (term * r / expOne) k) (mul-small expOne term (omega arith)) in
+    let first = exp-term expOne r term k left l in
     record { term-le = omega arith; k-pos = omega arith; k-le = omega arith; whole = omega arith }
 
 -- the sum with the next term is at most the whole
 sum-le : (r term sum k left : ℕ) → 0 < left → Inv r term sum k left → sum + term ≤ expUnit r
-sum-le r term sum k left l v = omega (arith, exp-term E10 r term k left l)
+sum-le r term sum k left l v = omega (arith, exp-term expOne r term k left l)
 
 done : (r term sum k left : ℕ) → left ≡ 0 → Inv r term sum k left → sum ≡ expUnit r
 unfolding expTerms
-done r term sum k left e v = sym (add-zero sum) ∙ ap (λ (j : ℕ). sum + expTerms E10 r term k j) (sym e) ∙ v .whole
+done r term sum k left e v = sym (add-zero sum) ∙ ap (λ (j : ℕ). sum + expTerms expOne r term k j) (sym e) ∙ v .whole
 
-r-le : (c : tie.Start Inv-loop μ-loop) → c .args .r ≤ LN2
+r-le : (c : tie.Start Inv-loop μ-loop) → c .args .r ≤ expTwo
 r-le c = le-of-lt (c .pre)
 
 mul-term : tie.Need-mul-term Inv-loop μ-loop
-mul-term c = mul-fits (LN2 / 4) LN2 (div-le 4 (r-le c)) (r-le c) tt
+mul-term c = mul-fits (expTwo / 4) expTwo (div-le 4 (r-le c)) (r-le c) tt
 
 div-term : tie.Need-div-term Inv-loop μ-loop
 div-term c = lit≤ tt
@@ -70,7 +70,7 @@ add-sum-2 c =
     omega (arith, sum-le _ _ _ _ _ (c .loop-test .taken) (l .inv), expUnit-most (r-le (c .before .before)))
 
 mul-term-2 : tie.Need-mul-term-2 Inv-loop μ-loop
-mul-term-2 c = mul-fits most LN2 (c .before .loop .inv .term-le) (r-le (c .before .before)) tt
+mul-term-2 c = mul-fits most expTwo (c .before .loop .inv .term-le) (r-le (c .before .before)) tt
 
 div-term-2 : tie.Need-div-term-2 Inv-loop μ-loop
 div-term-2 c = c .before .loop .inv .k-pos

@@ -6,7 +6,7 @@ use native.Mathlib.Nat.{le-refl, pow-succ'}
 use native.Mathlib.Omega.{arith}
 use lib.Dec.{lit≤, lit<}
 use lib.IntN.{pos, _-ℤ_}
-use Rattle.fixed.specs.Fixed.{E9, LN2, LN8, lnRatio, lnHalved, lnFixed}
+use Rattle.fixed.specs.Fixed.{E9, lnTwo, LN8, lnRatio, lnHalved, lnFixed}
 use Rattle.fixed.proofs.LnTwos.{halved-last, halved-more}
 use Rattle.reckon.proofs.Fitting.{less-fits, less-is}
 use Rattle.reckon.proofs.ln.ln_fixed.Statement.{statement}
@@ -18,13 +18,13 @@ record Inv (total y twos : ℕ) : Type 0 where
   left-is : left + twos ≡ 18
   low : E9 ≤ y
   high : y < 2 ^ suc left * E9
-  whole : twos * LN2 + lnHalved left y ≡ total
+  whole : twos * lnTwo + lnHalved left y ≡ total
 
 halve :
     (left total y twos : ℕ) →
     left + twos ≡ 18 →
     y < 2 ^ suc left * E9 →
-    twos * LN2 + lnHalved left y ≡ total →
+    twos * lnTwo + lnHalved left y ≡ total →
     2 * E9 ≤ y →
     Inv total (y / 2) (twos + 1)
 halve zero total y twos e h w g = absurd (omega arith)
@@ -37,7 +37,7 @@ halve (suc f) total y twos e h w g =
       whole = omega (arith, halved-more f g);
     }
 
-done : (total y twos r : ℕ) → Inv total y twos → y < 2 * E9 → r ≡ lnRatio y E9 → twos * LN2 + r ≡ total
+done : (total y twos r : ℕ) → Inv total y twos → y < 2 * E9 → r ≡ lnRatio y E9 → twos * lnTwo + r ≡ total
 done total y twos r v h e = omega (arith, halved-last (v .left) h)
 
 abbrev Inv-loop : tie.InvT-loop

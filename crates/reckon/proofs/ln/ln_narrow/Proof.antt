@@ -5,7 +5,7 @@ use mathlib.Core.Path.{ap, _∙_}
 use native.Mathlib.Nat.{le-trans, le-of-eq, zero-add, mul-le-mul, mul-pos}
 use native.Mathlib.Omega.{arith}
 use lib.Dec.{lit≤}
-use Rattle.fixed.specs.Fixed.{E12, lnNarrow}
+use Rattle.fixed.specs.Fixed.{E12, narrowCount, lnNarrow}
 use Rattle.exact.proofs.LnSeries.{below-third}
 use Rattle.fixed.proofs.LnNarrow.{lnNarrow-top}
 use Rattle.reckon.proofs.Fitting.{mul-fits}
@@ -18,7 +18,7 @@ abbrev third : ℕ
 third = E12 / 3
 
 abbrev Inv-loop : tie.InvT-loop
-Inv-loop p q square whole power₀ odd₀ sum₀ left₀ power odd sum left = Turn whole square power₀ third 12 power odd sum left
+Inv-loop p q square whole power₀ odd₀ sum₀ left₀ power odd sum left = Turn whole square power₀ third narrowCount power odd sum left
 
 abbrev μ-loop : tie.MeasureT-loop
 μ-loop p q square whole power₀ odd₀ sum₀ left₀ power odd sum left = left

@@ -6,7 +6,7 @@ use native.Mathlib.Nat.{le-trans, le-of-eq, pow-suc, mul-assoc, mul-comm}
 use native.Mathlib.Omega.{arith}
 use lib.Dec.{lit<}
 use lib.IntN.{pos, _-ℤ_}
-use Rattle.fixed.specs.Fixed.{LN2, LN8, lnRatio, lnDoubled, lnQuotient}
+use Rattle.fixed.specs.Fixed.{lnTwo, LN8, lnRatio, lnDoubled, lnQuotient}
 use Rattle.fixed.proofs.LnTwos.{doubled-last, doubled-more}
 use Rattle.reckon.proofs.Fitting.{less-fits, less-is}
 use Rattle.reckon.proofs.ln.ln_quotient.Statement.{statement}
@@ -19,7 +19,7 @@ record Inv (total top bottom twos : ℕ) : Type 0 where
   above : 1 ≤ bottom
   low : bottom ≤ top
   high : top ≤ 2 ^ left * bottom
-  whole : twos * LN2 + lnDoubled left top bottom ≡ total
+  whole : twos * lnTwo + lnDoubled left top bottom ≡ total
 
 twice : (f b : ℕ) → 2 ^ suc f * b ≡ 2 ^ f * (b * 2)
 twice f b = rw (pow-suc 2 f, mul-comm b 2, mul-assoc (2 ^ f) 2 b)
@@ -29,7 +29,7 @@ double :
     left + twos ≡ 6 →
     1 ≤ bottom →
     top ≤ 2 ^ left * bottom →
-    twos * LN2 + lnDoubled left top bottom ≡ total →
+    twos * lnTwo + lnDoubled left top bottom ≡ total →
     2 * bottom ≤ top →
     Inv total top (bottom * 2) (twos + 1)
 double zero total top bottom twos e l h w g = absurd (omega arith)
@@ -48,7 +48,7 @@ done :
     Inv total top bottom twos →
     top < 2 * bottom →
     r ≡ lnRatio top bottom →
-    twos * LN2 + r ≡ total
+    twos * lnTwo + r ≡ total
 done total top bottom twos r v h e = omega (arith, doubled-last (v .left) bottom h)
 
 abbrev Inv-loop : tie.InvT-loop

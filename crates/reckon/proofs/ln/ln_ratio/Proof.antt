@@ -5,7 +5,7 @@ use mathlib.Core.Path.{ap, _∙_}
 use native.Mathlib.Nat.{le-trans, zero-add}
 use native.Mathlib.Omega.{arith}
 use lib.Dec.{lit≤}
-use Rattle.fixed.specs.Fixed.{E10}
+use Rattle.fixed.specs.Fixed.{lnOne, lnCount}
 use Rattle.exact.proofs.Quotients.{mul-small}
 use Rattle.reckon.proofs.Fitting.{mul-fits}
 use Rattle.exact.proofs.LnSeries.{below-third}
@@ -15,19 +15,19 @@ use Rattle.reckon.proofs.ln.ln_ratio.Tie as tie
 
 -- a third, in units of 10^-10
 abbrev third : ℕ
-third = E10 / 3
+third = lnOne / 3
 
 abbrev Inv-loop : tie.InvT-loop
-Inv-loop p q z square power₀ odd₀ sum₀ left₀ power odd sum left = Turn E10 square z third 10 power odd sum left
+Inv-loop p q z square power₀ odd₀ sum₀ left₀ power odd sum left = Turn lnOne square z third lnCount power odd sum left
 
 abbrev μ-loop : tie.MeasureT-loop
 μ-loop p q z square power₀ odd₀ sum₀ left₀ power odd sum left = left
 
-square-le : {z : ℕ} → z ≤ third → z * z / E10 ≤ third
-square-le {z} h = le-trans (mul-small E10 z (omega arith)) h
+square-le : {z : ℕ} → z ≤ third → z * z / lnOne ≤ third
+square-le {z} h = le-trans (mul-small lnOne z (omega arith)) h
 
-z-le : (c : tie.Start Inv-loop μ-loop) → (c .args .p - c .args .q) * E10 / (c .args .p + c .args .q) ≤ third
-z-le c = below-third E10 _ _ (omega arith) (omega arith)
+z-le : (c : tie.Start Inv-loop μ-loop) → (c .args .p - c .args .q) * lnOne / (c .args .p + c .args .q) ≤ third
+z-le c = below-third lnOne _ _ (omega arith) (omega arith)
 
 sub-z : tie.Need-sub-z Inv-loop μ-loop
 sub-z c = omega arith
