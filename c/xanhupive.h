@@ -12,6 +12,12 @@
  * What the comments below promise is proved of the source that is compiled, for every line, every
  * measure, every period and every length: one possible answer, and one possible state of what was lent.
  *
+ * How near, for every request that is accepted: ln median and each sigma lie within one in the sixth place,
+ * one millionth, of the exact value; the median lies within 1 + Y/500000 of the exact Y, counted in its unit of
+ * 10^-10, and is at least 1. Of a spectrum that is the theorem `accepted-rows`, of the lines that
+ * xanhupive_predict_line and a list in parts write of one `accepted-shown`, of one measure `accepted-measure`, of one
+ * period `accepted-period`; docs/ASSURANCE.md says where they stand.
+ *
  * What a caller owes, which nothing here can test:
  *   - A pointer and its length are of one block that may be read, and for `out`, `rows`, `row`, `reader`,
  *     `median`, `total`, `took` and `wrote` written. With length 0 any pointer will do, NULL too: nothing
@@ -141,7 +147,7 @@ uint32_t xanhupive_spectrum(const uint8_t *line, size_t line_length, double *row
  *
  * At the period of a measure from 0 to 20 it is that measure's row in xanhupive_spectrum, number for number.
  * Between two of these periods ln median and each sigma lie on the straight line over the logarithm of the
- * period between the two rows, and the median is the exponential of that ln median; the README says how near.
+ * period between the two rows, and the median is the exponential of that ln median, all as near as in the spectrum.
  *
  * Returns 0, with the row in row[0] to row[5], in the order of XANHUPIVE_COLUMNS and the units of
  * xanhupive_spectrum, each double exactly a whole number between two tabulated periods too: ln median and

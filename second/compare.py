@@ -1,8 +1,8 @@
 #!/usr/bin/env python3
 """Runs requests through the proved programs and through the second program and compares every answer.
 
-    python3 second/compare.py SEED COUNT [--tight] [--complete COMMAND] [--predict COMMAND | --no-predict] [--rows COMMAND]
-        [--periods COMMAND] [--second PATH]
+    python3 second/compare.py SEED COUNT [--rounded] [--complete COMMAND] [--predict COMMAND | --no-predict] [--rows COMMAND]
+        [--measures COMMAND] [--periods COMMAND] [--second PATH]
 
 COMMAND is a path with its arguments, by default target/bin/complete and target/bin/predict; the second program is compiled unless its
 path is given. Exit 1 on any difference beyond its bound:
@@ -10,13 +10,16 @@ path is given. Exit 1 on any difference beyond its bound:
 - a given figure, a dip, a Z2.5 from Z1.5 or Z1.0, an RRUP off the hanging wall, the letters, the header, the form of a line, the
   number of lines: none may differ;
 - W, ZTOR, RRUP and Z2.5 estimated: 2 m from the second program's figure before it is rounded, asked for at the first program's own
-  figures before it; --tight as they are rounded, W, ZTOR and Z2.5 down, RRUP up, with 5 mm to spare;
+  figures before it; --rounded as they are rounded, W, ZTOR and Z2.5 down, RRUP up, with 5 mm to spare;
 - a refusal: the same number. The one exception is document 01's: where a completed figure is read, the second program is asked at each
   whole metre that the figure's bound allows, and the first program must have answered as one of these;
-- ln median and the sigmas: 5 millionths, --tight 1; the median: 1 + Y/100000, --tight 1 + Y/500000; from the second program's figure
-  before it is rounded, at the figures that the first completed. The predicting program prints ln median, median and total sigma;
-  --rows names a program that prints all six figures of a row, as c/rows.c does with the static library. It is told how many medians
-  of each short period are PGA's, their own being lower; a long list must have some of each, with and without the others;
+- ln median and each sigma: one in the sixth place; a median Y: 1 + Y/500000, and at least 1; from the second program's figure before it
+  is rounded, at the figures that the first completed. What each measure has at worst is told. The predicting program prints ln
+  median, median and total sigma; --rows names a program that prints all six figures of a row, as c/rows.c does with the static
+  library. It is told how many medians of each short period are PGA's, their own being lower; a long list must have some of each, with
+  and without the others;
+- one measure, where --measures names a program that prints each of a request by itself, as c/measures.c does: the median and the total
+  sigma that --rows prints, byte for byte, the request's refusal, and 15 for the number behind the last;
 - rows at periods, where --periods names a program that prints all six figures of a row at the period that stands before each request,
   as c/periods.c does: the same bounds, and a long list must have every whole period from 10 to 10000 thousandths of a second among its
   accepted requests. A refusal: that of the request, else 17 exactly for a period out of that range. At a tabulated period the figures
@@ -29,11 +32,13 @@ import os
 import re
 import sys
 
-from programs import HEADER, ROOT, build, command, listed, run
+from programs import HEADER, PARTS, ROOT, SIXTH_PLACE, UNITS, build, command, listed, run
 from random_requests import EVERY_PERIOD, LONG, NAMES, PERIODS, STARRED, periods, refused_lists, requests
 
 METRES = 2
-# How far an estimate may lie below and above the second program's figure, in m: by document 01; and --tight, as the programs round it.
+# The second program's finer figures have three digits more, the last of them rounded.
+FINE, LAST = 1000, 0.0005
+# How far an estimate may lie below and above the second program's figure, in m: by document 01; and --rounded, as the programs round it.
 BOUNDS = {name: (METRES, METRES) for name in ("w", "ztor", "rrup", "z25")}
 ROUNDED = {"w": (1.005, 0.005), "ztor": (1.005, 0.005), "rrup": (0.005, 1.005), "z25": (1.005, 0.005)}
 WHOLE = rb" (0|[1-9]\d*)"
@@ -49,7 +54,7 @@ FALLING = range(1, 9)
 # What the predicting program is asked for with --period: tabulated periods, others, and some out of range; and for how many lines.
 ASKED = [9, 10, 11, 40, 75, 250, 275, 370, 1000, 6000, 10000, 10001]
 PART = 5000
-NO_PERIOD = b"no 17"
+NO_MEASURE, NO_PERIOD = b"no 15", b"no 17"
 SHOWN = 10
 
 Answer = collections.namedtuple("Answer", "refusal figures letters exact")
@@ -77,13 +82,13 @@ class Report:
             self.fail(line, f"{name} is {metres}, exact {exact / 1000}")
         return -below <= off <= above
 
-    def row(self, line, name, place, figure, fine, bounds):
-        """A predicted figure, at a measure or a Place, and the second program's in thousandths."""
-        millionths, share = bounds
-        off, bound = figure - fine / 1000, 1 + fine / 1000 / share if name == "median" else millionths
-        self.high[name, place] = max(self.high[name, place], abs(off) / bound)
-        if abs(off) > bound:
-            self.fail(line, f"{told(place)}, {name} is off by {off:.3f}, bound {bound:.6g}")
+    def row(self, line, name, place, figure, fine):
+        """A predicted figure, at a measure or a Place, and the second program's with three digits more."""
+        exact = fine / FINE
+        off, bound = abs(figure - exact) + LAST, UNITS + exact / PARTS if name == "median" else SIXTH_PLACE
+        self.high[name, place] = max(self.high[name, place], off / bound)
+        if off > bound:
+            self.fail(line, f"{told(place)}, {name} is {figure}, exact {exact}, bound {bound:.6g}")
         if name == "median" and figure < 1:
             self.fail(line, f"{told(place)}, a median below 1")
 
@@ -273,51 +278,67 @@ class Comparison:
         if p.figures["z25"] != found[0].figures["z25"] and not fields["z25"] == fields["z15"] == fields["z10"] == "-":
             report.fail(line, f"{p} where the second program has {found[0]}")
 
-    def predicting(self, words, names, data, lines, completed, bounds):
-        """Compares predictions, with the figures named, at the figures that the first program completed."""
+    def predicting(self, words, names, data, lines, completed):
+        """Compares predictions, with the figures named, at the figures that the first program completed; gives them, none if they have
+        another form."""
         report = self.report
         given = at_completed(lines, completed)
         second = run([self.second, "fine"], given).split(b"\n")
         first = run(words, data).split(b"\n")
         if first.pop() != b"" or second.pop() != b"" or len(second) != MEASURES * given.count(b"\n"):
             report.fail(b"", "no LF at the end, or a completed request that the second program refuses")
-            return
+            return []
         at = theirs = 0
         for line, p in zip(lines, completed):
             if p is None:
-                return
+                return []
             if p.refusal:
                 if first[at:at + 1] != [b"no %d" % p.refusal]:
                     report.fail(line, f"completed to {p}, predicted as {first[at:at + 1]}")
-                    return
+                    return []
                 at += 1
                 continue
             mine, others = first[at:at + MEASURES], second[theirs:theirs + MEASURES]
             at, theirs = at + MEASURES, theirs + MEASURES
-            if not self.spectrum(line, names, mine, others, bounds):
-                return
+            if not self.spectrum(line, names, mine, others):
+                return []
         if at != len(first):
             report.fail(b"", f"{len(first) - at} lines too many")
+        return first
 
-    def spectrum(self, line, names, mine, others, bounds):
-        """Compares the 24 lines of one prediction with the second program's in thousandths; whether they have the form."""
+    def by_measure(self, words, rows, lines, completed):
+        """Compares each measure by itself with the rows, for the lines that have their LF: median and total sigma, byte for byte."""
+        said = iter(run(words, listed(lines[:-1])).split(b"\n"))
+        rows = iter(rows)
+        for line, p in zip(lines[:-1], completed):
+            row = [next(rows, b"").split(b" ") for _ in range(1 if p.refusal else MEASURES)]
+            wanted = (MEASURES + 1) * [b"no %d" % p.refusal] if p.refusal else [b" ".join((w[2], w[5])) for w in row] + [NO_MEASURE]
+            for measure, (a, b) in enumerate(zip(wanted, said)):
+                if a != b:
+                    self.report.fail(line, f"measure {measure} by itself is {b!r}, its row has {a!r}")
+            self.report.count["measures"] += p.refusal == 0
+        if list(said) != [b""]:
+            self.report.fail(b"", "another number of measures by themselves")
+
+    def spectrum(self, line, names, mine, others):
+        """Compares the 24 lines of one prediction with the second program's finer ones; whether they have the form."""
         if len(mine) != MEASURES:
             self.report.fail(line, f"{len(mine)} lines")
             return False
-        return all(self.row(line, names, measure, measure, a, b, bounds) for measure, (a, b) in enumerate(zip(mine, others)))
+        return all(self.row(line, names, measure, measure, a, b) for measure, (a, b) in enumerate(zip(mine, others)))
 
-    def row(self, line, names, place, number, said, fine, bounds):
-        """Compares one line of a row, which has its number, with the second program's in thousandths; whether it has the form."""
+    def row(self, line, names, place, number, said, fine):
+        """Compares one line of a row, which has its number, with the second program's finer one; whether it has the form."""
         figures = row_of(said, number, names)
         if figures is None:
             self.report.fail(line, f"{told(place)}, another form: {said!r}")
             return False
         exact = dict(zip(ROW, map(int, fine.split(b" ")[1:])))
         for name, figure in figures.items():
-            self.report.row(line, name, place, figure, exact[name], bounds)
+            self.report.row(line, name, place, figure, exact[name])
         return True
 
-    def at_periods(self, program, words, names, asked, data, bounds):
+    def at_periods(self, program, words, names, asked, data):
         """Compares a program's answers to a list, one line for each request with its period; gives them, none if there are more or less."""
         accepted = [t for t in asked if t.completed.refusal == 0]
         given = listed(b"%d %s" % (t.period, completed_line(t.line, t.completed)) for t in accepted)
@@ -329,11 +350,11 @@ class Comparison:
         theirs = iter(second)
         for t, said in zip(asked, first):
             refusal = t.completed.refusal
-            self.at_period(Place(program, t.period), t, names, said, b"no %d" % refusal if refusal else next(theirs), bounds)
+            self.at_period(Place(program, t.period), t, names, said, b"no %d" % refusal if refusal else next(theirs))
         return first
 
-    def at_period(self, place, t, names, said, fine, bounds):
-        """Compares one answer with the request's refusal, or with the second program's row in thousandths or its refusal."""
+    def at_period(self, place, t, names, said, fine):
+        """Compares one answer with the request's refusal, or with the second program's finer row or its refusal."""
         refused, outside = fine.startswith(b"no "), t.period not in EVERY_PERIOD
         if t.completed.refusal == 0 and (refused != outside or refused and fine != NO_PERIOD):
             self.report.fail(t.line, f"the second program has {fine!r} at period {t.period}")
@@ -341,13 +362,13 @@ class Comparison:
             self.report.count[place.program, fine] += 1
             if said != fine:
                 self.report.fail(t.line, f"{told(place)}, {said!r}, which must be {fine!r}")
-        elif self.row(t.line, names, place, t.period, said, fine, bounds):
+        elif self.row(t.line, names, place, t.period, said, fine):
             self.report.count[place] += 1
 
-    def timed(self, words, rows, asked, bounds):
+    def timed(self, words, rows, asked):
         """Compares rows at periods, and those at tabulated ones with what the program of rows prints, if there is one."""
         data = b"\n".join(b"%d %s" % (t.period, t.line) for t in asked)
-        said = self.at_periods("periods", words, ROW, asked, data, bounds)
+        said = self.at_periods("periods", words, ROW, asked, data)
         if rows and said:
             self.tabulated(rows, [(t, line) for t, line in zip(asked, said) if t.period in PERIODS and t.completed.refusal == 0])
 
@@ -363,14 +384,14 @@ class Comparison:
             if said.partition(b" ")[2] != row.partition(b" ")[2]:
                 self.report.fail(t.line, f"{said!r} at a tabulated period, where its row is {row!r}")
 
-    def one_period(self, predict, lines, completed, bounds):
+    def one_period(self, predict, lines, completed):
         """Compares what the predicting program prints with --period, for a part of the list and its unfinished line."""
         step = max(1, len(lines) // PART)
         part = [*zip(lines[:-1:step], completed[:-1:step]), (lines[-1], completed[-1])]
         data = b"\n".join(line for line, _ in part)
         for period in ASKED:
             asked = [Timed(period, line, p, None) for line, p in part]
-            self.at_periods("predict", [*predict, "--period", str(period)], PRINTED, asked, data, bounds)
+            self.at_periods("predict", [*predict, "--period", str(period)], PRINTED, asked, data)
 
     def raised(self, lines, completed):
         """The measures of each accepted request whose medians the second program raises to PGA's; none where it refuses it."""
@@ -422,15 +443,21 @@ def tell_periods(report, program, names):
     """Prints how far each figure of a program was off at periods; gives these periods."""
     count = {place.period: n for place, n in report.count.items() if isinstance(place, Place) and place.program == program}
     print(f"{program}: {sum(count.values())} rows compared at {len(count)} periods, {report.count[program, NO_PERIOD]} periods refused")
-    for name in names if count else []:
-        off, gaps = {period: report.high[name, Place(program, period)] for period in count}, collections.defaultdict(float)
-        for period, share in off.items():
-            below = PERIODS[bisect.bisect(PERIODS, period) - 1]
-            gaps[below] = max(gaps[below], share)
-        worst = max(off, key=off.get)
-        print(f"{name}: worst {off[worst]:.3f} of its bound, at period {worst}; from each tabulated period to the next:")
-        print("  " + ", ".join(f"{below} {gaps[below]:.3f}" for below in sorted(gaps)))
+    gaps = collections.defaultdict(float)
+    for period in count:
+        below = PERIODS[bisect.bisect(PERIODS, period) - 1]
+        for name in names:
+            gaps[name, below] = max(gaps[name, below], report.high[name, Place(program, period)])
+    tell_worst(gaps, names, sorted({below for _, below in gaps}), "period", "from each tabulated period to the next")
     return set(count)
+
+
+def tell_worst(worst, names, places, place, words):
+    """Prints how far each figure was off at worst, by place."""
+    if places:
+        print(f"the worst {words}, ln median and sigmas in units of the sixth place, the median in parts of its bound:")
+        for head, row in [(place, names), *((p, [f"{worst[name, p]:.3f}" for name in names]) for p in places)]:
+            print(f"{head:>8}" + "".join(f"{word:>17}" for word in row))
 
 
 def tell_gaps(report, asked, long):
@@ -464,10 +491,9 @@ def tell(report, accepted, predicted):
         below, above = report.bounds[name]
         print(f"{name}: {report.count[name]} estimated, from {report.low[name]:.3f} to {report.high[name]:.3f} m off, bounds -{below} and {above}")
     print(f"{report.count['apart']} answers differ, {report.count['refused']} of them in being refused")
-    for name in predicted:
-        worst = max(range(MEASURES), key=lambda m: report.high[name, m])
-        print(f"{name}: {MEASURES * accepted} compared, worst {report.high[name, worst]:.3f} of its bound, at measure {worst}; by measure:")
-        print("  " + " ".join(f"{report.high[name, m]:.3f}" for m in range(MEASURES)))
+    if predicted:
+        print(f"{MEASURES * accepted} rows of measures compared, {report.count['measures']} requests by single measures too")
+        tell_worst(report.high, predicted, range(MEASURES), "measure", "of each measure")
 
 
 def tell_failures(report):
@@ -482,11 +508,12 @@ def read_options():
     options = argparse.ArgumentParser(description=__doc__.split("\n")[0])
     options.add_argument("seed", type=int)
     options.add_argument("count", type=int)
-    options.add_argument("--tight", action="store_true", help="one millionth, 1 + Y/500000, and estimates as they are rounded")
+    options.add_argument("--rounded", action="store_true", help="hold estimates to the way in which they are rounded")
     options.add_argument("--complete", default=os.path.join(ROOT, "target/bin/complete"))
     options.add_argument("--predict", default=os.path.join(ROOT, "target/bin/predict"))
     options.add_argument("--no-predict", action="store_true", help="compare completed requests alone")
     options.add_argument("--rows", help="a program that prints all six figures of a row")
+    options.add_argument("--measures", help="a program that prints each measure by itself; with --rows")
     options.add_argument("--periods", help="a program that prints all six figures of a row at the period before each request")
     options.add_argument("--second")
     return options.parse_args()
@@ -497,22 +524,23 @@ def main():
     given = read_options()
     predict = None if given.no_predict else command(given.predict)
     rows, timed = (words and command(words) for words in (given.rows, given.periods))
-    report, long = Report(ROUNDED if given.tight else BOUNDS), given.count >= LONG
+    report, long = Report(ROUNDED if given.rounded else BOUNDS), given.count >= LONG
     comparison = Comparison(command(given.complete), given.second or build(), report)
     data = requests(given.seed, given.count)
     lines = data.split(b"\n")
     completed = comparison.completing(data, lines) or []
-    bounds = (1, 500000) if given.tight else (5, 100000)
     if completed and predict:
-        comparison.predicting(predict, PRINTED, data, lines, completed, bounds)
+        comparison.predicting(predict, PRINTED, data, lines, completed)
     if completed and rows:
-        comparison.predicting(rows, ROW, data, lines, completed, bounds)
+        printed = comparison.predicting(rows, ROW, data, lines, completed)
+        if printed and given.measures:
+            comparison.by_measure(command(given.measures), printed, lines, completed)
     raised, asked = comparison.raised(lines, completed) if predict or timed else [], []
     if completed and timed and all(completed):
         asked = asked_at(given.seed, lines, completed, raised, long)
-        comparison.timed(timed, rows, asked, bounds)
+        comparison.timed(timed, rows, asked)
         if predict:
-            comparison.one_period(predict, lines, completed, bounds)
+            comparison.one_period(predict, lines, completed)
     comparison.short_lists(predict, timed)
 
     patterns, refusals = covered(lines, completed)

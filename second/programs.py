@@ -1,4 +1,4 @@
-"""Builds the second program and runs programs on lists; shared by the scripts beside it."""
+"""Builds the second program, runs programs on lists, and has the bounds of a prediction; shared by the scripts beside it."""
 import atexit
 import glob
 import os
@@ -11,6 +11,9 @@ HERE = os.path.dirname(os.path.abspath(__file__))
 ROOT = os.path.dirname(HERE)
 FLAGS = ["-std=c11", "-O2", "-Wall", "-Wextra", "-Werror"]
 HEADER = b"dip W ZTOR RRUP Z25 from"
+# How far a reported figure may lie from the exact one: ln median and each sigma, in millionths; a median, in its unit of 10^-10, and one
+# part in so many besides.
+SIXTH_PLACE, UNITS, PARTS = 1, 1, 500000
 
 
 def scratch():

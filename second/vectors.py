@@ -1,12 +1,13 @@
 #!/usr/bin/env python3
 """Runs the programs on the outside numbers of vectors/ and checks each figure; vectors/README.md says where they come from.
 
-    python3 second/vectors.py [--tight] [--predict COMMAND] [--complete COMMAND] [--rows COMMAND]
+    python3 second/vectors.py [--predict COMMAND] [--complete COMMAND] [--rows COMMAND]
 
 COMMAND is a path with its arguments, by default target/bin/predict and target/bin/complete. The predicting program prints no arbitrary
 component, and working it out here from the total would test this script and not the program; so those 24 numbers are checked only
 where --rows names a program that prints, for each measure of a request, its number and six figures: ln median, median, intra, inter,
-total, arbitrary. Prints a line for each group and exits with 1 if a figure lies beyond its bound.
+total, arbitrary. Where an outside number has digits enough the bounds are those of second/compare.py, one in the sixth place and of a median Y
+1 + Y/500000. Prints a line for each group and exits with 1 if a figure lies beyond its bound.
 """
 import argparse
 import csv
@@ -14,11 +15,11 @@ import math
 import os
 import sys
 
-from programs import ROOT, command, listed, run
+from programs import PARTS, ROOT, SIXTH_PLACE, UNITS, command, listed, run
 
 MEASURES = 24
-# What rounding to a thousandth leaves, with five millionths of our own, in millionths.
-PRINTED_SIGMA = 500 + 5
+# What rounding to a thousandth leaves, with what our own figure may be off, in millionths.
+PRINTED_SIGMA = 500 + SIXTH_PLACE
 LINEAR_SITES = [b"650 0 1100 - 10000 - 3000 4000 30 - - - 2000", b"800 90 1500 40 - - - 20 -90 - - - 0"]
 # Requests whose figures were told beforehand: measures, ln median, total sigma where told.
 TOLD = [
@@ -65,7 +66,7 @@ def spectra(words, requests):
     return [rows[k:k + MEASURES] for k in range(0, len(rows), MEASURES)]
 
 
-def medians(words, millionths, share):
+def medians(words):
     """The medians of the program of 002, each logarithm and each median, with its rule on: what the rule raises is PGA's."""
     given = table("medians.csv")
     raised = [{int(k) for k in v["raised_by_rule"].split(";") if k != "-"} for v in given]
@@ -74,8 +75,8 @@ def medians(words, millionths, share):
     for vector, short, rows in zip(given, raised, spectra(words, [v["request"].encode() for v in given])):
         for measure, name in enumerate(names):
             y, what = float(vector["pga" if measure in short else name]), f"{vector['request']}, measure {measure}"
-            group.check(f"{what}, ln median", rows[measure][1] - 1e6 * math.log(y), millionths)
-            group.check(f"{what}, median", rows[measure][2] - 1e10 * y, 1 + 1e10 * y / share)
+            group.check(f"{what}, ln median", rows[measure][1] - 1e6 * math.log(y), SIXTH_PLACE)
+            group.check(f"{what}, median", rows[measure][2] - 1e10 * y, UNITS + 1e10 * y / PARTS)
     return group.close()
 
 
@@ -109,30 +110,27 @@ def sigmas(words, column, name):
     return group.close()
 
 
-def told(words, millionths):
+def told(words):
     """The requests whose figures were told beforehand."""
     group = Group("requests told beforehand")
     for (request, measures, ln, total), rows in zip(TOLD, spectra(words, [request for request, *_ in TOLD])):
         for measure in measures:
             what = f"{request.decode()}, measure {measure}"
-            group.check(f"{what}, ln median", rows[measure][1] - ln, millionths)
+            group.check(f"{what}, ln median", rows[measure][1] - ln, SIXTH_PLACE)
             if total is not None:
-                group.check(f"{what}, total sigma", rows[measure][3] - total, millionths)
+                group.check(f"{what}, total sigma", rows[measure][3] - total, SIXTH_PLACE)
     return group.close()
 
 
 def main():
     """All groups, and the exit status."""
     options = argparse.ArgumentParser(description=__doc__.split("\n")[0])
-    options.add_argument("--tight", action="store_true", help="one millionth, and 1 + Y/500000")
     options.add_argument("--predict", default=os.path.join(ROOT, "target/bin/predict"))
     options.add_argument("--complete", default=os.path.join(ROOT, "target/bin/complete"))
     options.add_argument("--rows")
     given = options.parse_args()
     predict, complete = command(given.predict), command(given.complete)
-    millionths, share = (1, 500000) if given.tight else (5, 100000)
-    beyond = medians(predict, millionths, share)
-    beyond += printed_medians(predict) + printed_distances(complete) + sigmas(predict, 3, "total") + told(predict, millionths)
+    beyond = medians(predict) + printed_medians(predict) + printed_distances(complete) + sigmas(predict, 3, "total") + told(predict)
     if given.rows:
         beyond += sigmas(command(given.rows), 6, "arbitrary")
     else:

@@ -132,7 +132,7 @@ MORE = [
     ("specs", "crates/outcome/specs/*.antt", of("tooShort"), "path_stage"),
     ("specs", "crates/outcome/specs/*.antt", EVERY, "completion"),
     ("specs", "crates/tables/specs/*.antt", of("periods measures"), "tables"),
-    ("specs", "crates/model/specs/*.antt", of("isShort"), "model"),
+    ("specs", "crates/model/specs/*.antt", of("isShort sixthPlace"), "model"),
     # PGA's row is first asked for by the rock's motion.
     ("specs", "crates/tables/specs/*.antt", of("PGA"), "site"),
     ("specs", "crates/measures/specs/*.antt", EVERY, "measures"),
@@ -224,7 +224,7 @@ LEFT = [
     ("crates/exact/specs/*", r"^(IsRoot|Symmetric|Circle): .*", PROMISE),
     ("crates/fixed/specs/*", r"^(Halfway|Sine): .*", PROMISE),
     ("crates/geometry/specs/*", r"^RuptureInRange: .*", PROMISE),
-    ("crates/model/specs/*", r"^(InRange|FineInRange|Accurate|RootNear|FineNear|minusFifteen|E20): .*", PROMISE),
+    ("crates/model/specs/*", r"^(InRange|FineInRange|medianParts|NearMedian|Accurate|RootNear|FineNear|minusFifteen|E20): .*", PROMISE),
     ("crates/prediction/specs/*", r"^(Small|ShownSmall|Is): .*", PROMISE),
     ("crates/between/specs/*", r"^(Gap|DrawnInRange): .*", PROMISE),
     ("crates/answer/specs/*", r"^longest(Line|Period): .*", PROMISE),
@@ -346,7 +346,7 @@ class Copy:
         """The gate's step for a place: whether it passes."""
         if crate:
             return self.passes("rt", "check", crate)
-        compare = ("second/compare.py", "1", "6000", "--tight")
+        compare = ("second/compare.py", "1", "6000", "--rounded")
         # the completed requests are compared first, with rows at periods, which is quick
         quick = (*compare, "--no-predict", "--periods", "target/c/periods")
         steps = [("second/tables.py",), quick, (*compare, "--rows", "target/c/rows")]

@@ -3,6 +3,10 @@
 //! with number 14. A list of lines is answered in parts by [`Reader`], and by [`Answers`] for what writes to
 //! [`std::io::Write`].
 //!
+//! For every request that is accepted ln median and each sigma lie within one in the sixth place, one millionth, of
+//! the exact value, and the median within 1 + Y/500000 of the exact Y, counted in its unit of 10^-10: in a spectrum, at
+//! one measure, at one period.
+//!
 //! Each function here calls one proved function of `libexport.a`; `c/xanhupive.h` says what is promised
 //! of each. The slices and references of Rust keep all that it asks of a caller.
 
