@@ -37,14 +37,14 @@ nearest (pos n) d = pos ((n + d / 2) / d)
 nearest (negsuc n) d = negℤ (pos ((suc n + d / 2) / d))
 
 -- ---- the logarithm
--- inside it one stands in units of 10^-10, and so does ln 2, rounded down
+-- one inside it, in units of 10^-10, and ln 2 in the same, rounded down
 abbrev pub lnOne : ℕ
 lnOne = E10
 
 abbrev pub lnTwo : ℕ
 lnTwo = 6931471805
 
--- as many terms as leave out at most one such unit
+-- how many terms: as many as leave out at most one such unit
 abbrev pub lnCount : ℕ
 lnCount = 10
 
@@ -53,11 +53,11 @@ unfoldable pub lnRatio : ℕ → ℕ → ℕ
 unfolding lnSeries
 lnRatio p q = lnSeries lnOne lnCount ((p - q) * lnOne / (p + q))
 
--- the same for small whole numbers, more precise: z² is a quotient of two of them, so that each power of z stands in units of 10^-12, and
--- the terms leave out at most one of these
+-- how many terms the next has: as many as leave out at most one unit of 10^-12
 abbrev pub narrowCount : ℕ
 narrowCount = 12
 
+-- the same for small whole numbers, more precise: z² is a quotient of two of them, so that each power of z stands in units of 10^-12
 unfoldable pub lnNarrow : ℕ → ℕ → ℕ
 unfolding lnTerms
 lnNarrow p q = 2 * lnTerms ((p + q) * (p + q)) ((p - q) * (p - q)) ((p - q) * E12 / (p + q)) 1 narrowCount / 100
@@ -89,14 +89,14 @@ unfolding lnDoubled
 lnQuotient p q = pos (lnDoubled 6 (8 * p) q / (lnOne / E9)) -ℤ pos LN8
 
 -- ---- the exponential
--- inside it one stands in units of 10^-10, and so does ln 2, rounded down
+-- one inside it, in units of 10^-10, and ln 2 in the same, rounded down
 abbrev pub expOne : ℕ
 expOne = E10
 
 abbrev pub expTwo : ℕ
 expTwo = 6931471805
 
--- as many terms as leave out at most one such unit
+-- how many terms: as many as leave out at most one such unit
 abbrev pub expCount : ℕ
 expCount = 12
 

@@ -63,7 +63,10 @@ fn put_answers_help(program: Program) -> bool {
             T, ln median, the median in 10^-10 of g and the total sigma. Between two\n\
             tabulated periods ln median and sigma lie on the straight line over the\n\
             logarithm of the period. A request that is accepted gets \"no 17\" where T is any\n\
-            other number.\n",
+            other number.\n\
+            \n\
+            ln median and sigma lie within one millionth of the exact value, a median of Y\n\
+            units within 1 + Y/500000 of them.\n",
         ),
     }
 }
