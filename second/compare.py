@@ -513,10 +513,13 @@ def read_options():
     options.add_argument("--predict", default=os.path.join(ROOT, "target/bin/predict"))
     options.add_argument("--no-predict", action="store_true", help="compare completed requests alone")
     options.add_argument("--rows", help="a program that prints all six figures of a row")
-    options.add_argument("--measures", help="a program that prints each measure by itself; with --rows")
+    options.add_argument("--measures", help="a program that prints each measure by itself")
     options.add_argument("--periods", help="a program that prints all six figures of a row at the period before each request")
     options.add_argument("--second")
-    return options.parse_args()
+    given = options.parse_args()
+    if given.measures and not given.rows:
+        options.error("--measures needs --rows, with which they are compared")
+    return given
 
 
 def main():

@@ -137,8 +137,7 @@ WRONG = [
     ("model.c", "p.total = sqrt(total2);", "p.total = p.raised ? 0.526 : sqrt(total2);"),
     ("model.c", "2 * alpha * d->rho * below * rock", "alpha * d->rho * below * rock"),
     ("model.c", "alpha * alpha * rock * rock", "alpha * alpha * rock"),
-    # one more in the sixth place than the nearest, one less, one more than the larger of the two beside; a median that is right to three
-    # parts in 10^6
+    # in the sixth place one more than the nearest, one more than the next above, one less; a median three parts in 10^6 off, two units off
     ("model.c", "llround(p->ln_median * 1e6)", "llround(p->ln_median * 1e6) + 1"),
     ("model.c", "llround(p->ln_median * 1e6)", "(long long)ceil(p->ln_median * 1e6) + 1"),
     ("model.c", "llround(p->total * 1e6)", "llround(p->total * 1e6) - 1"),

@@ -3,7 +3,7 @@
 use Prim.Native.Nat.{ℕ, zero, suc, _+_, _*_, _/_, _≤_, _<_}
 use mathlib.Core.Path.{_≡_, subst}
 use native.Mathlib.Omega.{arith}
-use native.Mathlib.Nat.{le-refl, le-trans, zero-lt-suc, mul-le-mul-left, mul-le-mul-right, mul-assoc, mul-right-comm, mul-add, add-mul, zero-mul, lt-div-mul-add, div-le-self}
+use native.Mathlib.Nat.{le-refl, le-trans, zero-lt-suc, mul-le-mul-right, mul-assoc, mul-right-comm, mul-add, add-mul, zero-mul, lt-div-mul-add, div-le-self}
 use Rattle.exact.specs.Laws.{Close}
 use Rattle.exact.specs.Series.{lnTerms, lnSeries, expTerms}
 use Rattle.exact.proofs.Quotients.{mul-small, mul-below, mul-above, quot-below, quot-above}
@@ -93,10 +93,10 @@ lnTerms-close S K hS hK (suc n) d p w {p'} {w'} hd hp hw cp cw =
     e
     (close-add K 2 (n * 2) (p / d) (lnTerms S w (p * w / S) (d + 2) n) (quotient d K p hd cp) rest)
 
--- z at both scales, at most a third, and a tail at a third of at most half a coarse unit
+-- z at both scales, at most a third, and a tail at a third of at most a coarse unit, which counts twice
 pub lnSeries-close :
-    (S K n k z z' : ℕ) → 27 ≤ S → 0 < K → z * 3 ≤ S → z' ≤ S * K / 3 → 2 * lnTail (S * K) n k (S * K / 3) ≤ K → Close K 1 z z'
-    → Close K (n * 4 + 1) (lnSeries S n z) (lnSeries (S * K) (n + k) z')
+    (S K n k z z' : ℕ) → 27 ≤ S → 0 < K → z * 3 ≤ S → z' ≤ S * K / 3 → lnTail (S * K) n k (S * K / 3) ≤ K → Close K 1 z z'
+    → Close K (n * 4 + 2) (lnSeries S n z) (lnSeries (S * K) (n + k) z')
 unfolding lnSeries
 lnSeries-close S K n k z z' hS hK hz top tail c =
     let T : ℕ = S * K in
@@ -104,9 +104,9 @@ lnSeries-close S K n k z z' hS hK hz top tail c =
     (lnTerms-close S K hS hK n 1 z (z * z / S) (zero-lt-suc 0) hz (square-ninth S z (omega arith) hz)
     (close-wide K 1 2 z (omega arith) c) (square S K z (omega arith) hK hz c))
     (lnTerms-split T (z' * z' / T) z' 1 n k)
-    (le-trans (mul-le-mul-left 2 (lnTail-mono T n k top)) tail)
+    (le-trans (lnTail-mono T n k top) tail)
   where
-    fin : (A B T B' : ℕ) → Close K (n * 2) A B → B' ≡ B + T → 2 * T ≤ K → Close K (n * 4 + 1) (2 * A) (2 * B')
+    fin : (A B T B' : ℕ) → Close K (n * 2) A B → B' ≡ B + T → T ≤ K → Close K (n * 4 + 2) (2 * A) (2 * B')
     fin A B T B' c e t =
         record {
           low = omega (arith, mul-assoc 2 A K, c .low);
@@ -116,8 +116,8 @@ lnSeries-close S K n k z z' hS hK hz top tail c =
                 c .high,
                 mul-assoc 2 A K,
                 add-mul A (n * 2) K,
-                add-mul (2 * A) (n * 4 + 1) K,
-                add-mul (n * 4) 1 K,
+                add-mul (2 * A) (n * 4 + 2) K,
+                add-mul (n * 4) 2 K,
                 mul-right-comm n 4 K,
                 mul-right-comm n 2 K,
               );

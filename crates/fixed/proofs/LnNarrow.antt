@@ -1,7 +1,7 @@
 -- The logarithm of a quotient of small whole numbers from 1 to 2, in units of 10^-10, is at most 2 units short of the exact one and
 -- above it by at most 1000 units of 10^-30; it grows with the quotient, and is at most ln 2, and at least ln 1.2 from 1.2 up. z² is a
 -- quotient of two whole numbers, so each power of z at 10^-12 is at most two of its units short of the power at 10^-30, and above it by
--- at most 3 units of 10^-30. Twelve terms, doubled, are at most 48 units of 10^-12 short, the tail is less than one more, and the
+-- at most 3 units of 10^-30. Eleven terms, doubled, are at most 44 units of 10^-12 short, what is left out two more, and the
 -- division by 100 leaves 2 units of 10^-10. Assumes nothing.
 use Prim.Native.Nat.{ℕ, zero, suc, _+_, _-_, _*_, _/_, _≤_, _<_}
 use mathlib.Core.Path.{_≡_, refl, sym, ap, subst, subst₂, _∙_}
@@ -251,10 +251,10 @@ ratio-apart d K x hd =
     let more : x / d + 1 ≤ x / d + 2 = omega arith in
     record { low = omega (arith, c .low); high = le-trans (c .high) (mul-le-mul-right K more) }
 
--- a/b at most a third, and a tail at a third of at most half a coarse unit
+-- a/b at most a third, and a tail at a third of at most a coarse unit, which counts twice
 series-apart :
-    (S K n k a b : ℕ) → 0 < S → 0 < K → 0 < b → 3 * a ≤ b → 2 * lnTail (S * K) n k (S * K / 3) ≤ K
-    → Apart K (n * 6) (n * 4 + 1) (2 * lnTerms (b * b) (a * a) (a * S / b) 1 n) (lnSeries (S * K) (n + k) (a * (S * K) / b))
+    (S K n k a b : ℕ) → 0 < S → 0 < K → 0 < b → 3 * a ≤ b → lnTail (S * K) n k (S * K / 3) ≤ K
+    → Apart K (n * 6) (n * 4 + 2) (2 * lnTerms (b * b) (a * a) (a * S / b) 1 n) (lnSeries (S * K) (n + k) (a * (S * K) / b))
 unfolding lnSeries
 series-apart S K n k a b hS hK hb third tail =
     let T : ℕ = S * K in
@@ -272,12 +272,12 @@ series-apart S K n k a b hS hK hb third tail =
     n 1 (a * S / b) (zero-lt-suc 0) small
     (subst (λ (t : ℕ). Apart K 3 2 (a * S / b) (t / b)) (mul-assoc a S K) (ratio-apart b K (a * S) hb)))
     (lnTerms-split T w z 1 n k)
-    (le-trans (mul-le-mul-left 2 (lnTail-mono T n k z-le)) tail)
+    (le-trans (lnTail-mono T n k z-le) tail)
   where
     square-third : (u v : ℕ) → 3 * u ≤ v → 3 * (u * u) ≤ v * v
     square-third u v h = omega (arith, mul-le-mul h h, mul-mul-mul-comm 3 u 3 u)
 
-    fin : (C F R F' : ℕ) → Apart K (n * 3) (n * 2) C F → F' ≡ F + R → 2 * R ≤ K → Apart K (n * 6) (n * 4 + 1) (2 * C) (2 * F')
+    fin : (C F R F' : ℕ) → Apart K (n * 3) (n * 2) C F → F' ≡ F + R → R ≤ K → Apart K (n * 6) (n * 4 + 2) (2 * C) (2 * F')
     fin C F R F' c e t =
         record {
           low = omega (arith, c .low, mul-assoc 2 C K);
@@ -287,8 +287,8 @@ series-apart S K n k a b hS hK hb third tail =
                 c .high,
                 mul-assoc 2 C K,
                 add-mul C (n * 2) K,
-                add-mul (2 * C) (n * 4 + 1) K,
-                add-mul (n * 4) 1 K,
+                add-mul (2 * C) (n * 4 + 2) K,
+                add-mul (n * 4) 2 K,
                 mul-right-comm n 4 K,
                 mul-right-comm n 2 K,
               );
@@ -300,16 +300,16 @@ abbrev K18 : ℕ
 K18 = 1_000000_000000_000000
 
 -- twice the coarse sum is lnNarrow once divided by 100
-hundredth-low : (K N C F U : ℕ) → N * 100 ≤ C → C * K ≤ F + 72 → 32 * F ≤ 32 * U + (250 * 59 + 1146) → N * (100 * K) ≤ U + 1000
+hundredth-low : (K N C F U : ℕ) → N * 100 ≤ C → C * K ≤ F + 66 → 32 * F ≤ 32 * U + (250 * 59 + 1146) → N * (100 * K) ≤ U + 1000
 hundredth-low K N C F U h k l = omega (arith, mul-le-mul-right K h, mul-assoc N 100 K)
 
-hundredth-high : (K N C F U : ℕ) → C ≤ N * 100 + 99 → F ≤ (C + 49) * K → U ≤ F → U ≤ (N + 2) * (100 * K)
+hundredth-high : (K N C F U : ℕ) → C ≤ N * 100 + 99 → F ≤ (C + 46) * K → U ≤ F → U ≤ (N + 2) * (100 * K)
 hundredth-high K N C F U h k l =
     omega (
       arith,
       mul-le-mul-right K h,
       add-mul (N * 100) 99 K,
-      add-mul C 49 K,
+      add-mul C 46 K,
       mul-assoc N 100 K,
       add-mul N 2 (100 * K),
     )
@@ -322,7 +322,7 @@ unit-near p q hq low top =
     let C : ℕ = 2 * lnTerms ((p + q) * (p + q)) ((p - q) * (p - q)) ((p - q) * E12 / (p + q)) 1 narrowCount in
     let F : ℕ = lnSeries E30 60 ((p - q) * E30 / (p + q)) in
     let U : ℕ = lnUnit E30 60 (p * E30 / q) in
-    let c : Apart K18 72 49 C F =
+    let c : Apart K18 66 46 C F =
     series-apart E12 K18 narrowCount (60 - narrowCount) (p - q) (p + q) (lit≤ tt) (lit≤ tt) (omega arith) (omega arith) narrow-left-out in (
       hundredth-low K18 (C / 100) C F U (div-mul-le-self C 100) (c .low) (lnRatio-above E30 59 p q (lit≤ tt) hq low top),
       hundredth-high K18 (C / 100) C F U (tens C) (c .high) (lnRatio-below E30 60 p q (lit≤ tt) hq low),

@@ -1,8 +1,8 @@
 -- The program's logarithms lie near the exact one: of a fixed-point number within 7 units of 10^-9, of a quotient within 5. Both are
 -- j ln 2 and the logarithm of a ratio P/Q from 1 to 2. In units of 10^-10, those of the inside, the series is short of the exact one by
--- at most 41, the j parts of ln 2 by 6 j/10; the exact logarithm of 2^j P/Q is within 12 (where a fixed-point number was halved and
--- rounded) or within a tiny fraction of one (a quotient) of that at the argument. A division by 10 and ln 8 finish. The laws hold at
--- any scale and number of terms: those of the program are read where the budget is added up. Assumes nothing.
+-- at most 38, the j parts of ln 2 by 6 j/10; the exact logarithm of 2^j P/Q is within 12 (where a fixed-point number was halved and
+-- rounded) or within a tiny fraction of one (a quotient) of that at the argument. A division by 10 and ln 8 finish. The scale
+-- and the number of terms are read by their names, and count only where the budget is added up. Assumes nothing.
 use Prim.Native.Nat.{ℕ, zero, suc, _+_, _-_, _*_, _/_, _^_, _≤_, _<_}
 use mathlib.Core.Path.{_≡_, refl, sym, ap, subst, _∙_}
 use native.Mathlib.Omega.{arith}
@@ -34,9 +34,9 @@ K = E30 / lnOne
 abbrev tens : ℕ
 tens = lnOne / E9
 
--- by how much the series may be short: four a term, and one for what is left out
+-- by how much the series may be short: four a term, and two for what is left out, since the sum is doubled
 abbrev short : ℕ
-short = lnCount * 4 + 1
+short = lnCount * 4 + 2
 
 -- by how much 3 ln 2 is above what is taken out for it
 abbrev spare : ℕ

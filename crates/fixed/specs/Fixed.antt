@@ -44,18 +44,18 @@ lnOne = E10
 abbrev pub lnTwo : ℕ
 lnTwo = 6931471805
 
--- how many terms: as many as leave out at most one such unit
+-- how many terms: as many as leave out at most one such unit of their sum
 abbrev pub lnCount : ℕ
-lnCount = 10
+lnCount = 9
 
 -- ln (p/q) for p/q from 1 to 2, in units of 10^-10
 unfoldable pub lnRatio : ℕ → ℕ → ℕ
 unfolding lnSeries
 lnRatio p q = lnSeries lnOne lnCount ((p - q) * lnOne / (p + q))
 
--- how many terms the next has: as many as leave out at most one unit of 10^-12
+-- how many terms the next has: as many as leave out at most one unit of 10^-12 of their sum
 abbrev pub narrowCount : ℕ
-narrowCount = 12
+narrowCount = 11
 
 -- the same for small whole numbers, more precise: z² is a quotient of two of them, so that each power of z stands in units of 10^-12
 unfoldable pub lnNarrow : ℕ → ℕ → ℕ

@@ -10,7 +10,8 @@ ghost use Rattle.fixed.specs.Fixed.{E9, lnRatio, lnNarrow, lnFixed, lnQuotient}
 // ln 8 in units of 10^-9.
 const LN8: i64 = 2_079_441_541;
 
-// ln (p/q), p/q from 1 to 2, in units of 10^-10: ten terms of 2 (z + z^3/3 + ..), z = (p-q)/(p+q).
+// ln (p/q), p/q from 1 to 2, in units of 10^-10: nine terms of 2 (z + z^3/3 + ..), z = (p-q)/(p+q).
+// The tenth would not reach a unit.
 fn ln_ratio(p: u64, q: u64) -> u64
     requires { ⌜ (1 ≤ q) × (q ≤ E9) × (q ≤ p) × (p ≤ 2 * q) ⌝ }
     ensures { λ r. ⌜ (r ≡ lnRatio p q) × (r ≤ 7000000000) ⌝ }
@@ -20,7 +21,7 @@ fn ln_ratio(p: u64, q: u64) -> u64
     let mut power = z;
     let mut odd: u64 = 1;
     let mut sum: u64 = 0;
-    let mut left: u64 = 10;
+    let mut left: u64 = 9;
     while left > 0 {
         sum += power / odd;
         power = power * square / E10;
@@ -30,7 +31,7 @@ fn ln_ratio(p: u64, q: u64) -> u64
     2 * sum
 }
 
-// ln (p/q), p/q from 1 to 2 and p up to 10,000, in units of 10^-10, more precise: twelve terms of the same
+// ln (p/q), p/q from 1 to 2 and p up to 10,000, in units of 10^-10, more precise: eleven terms of the same
 // series. The square of z is a quotient of two whole numbers, and each power of z stands in units of 10^-12.
 pub fn ln_narrow(p: u64, q: u64) -> u64
     requires { ⌜ (1 ≤ q) × (q ≤ p) × (p ≤ 2 * q) × (p ≤ 10000) ⌝ }
@@ -41,7 +42,7 @@ pub fn ln_narrow(p: u64, q: u64) -> u64
     let mut power = (p - q) * E12 / (p + q);
     let mut odd: u64 = 1;
     let mut sum: u64 = 0;
-    let mut left: u64 = 12;
+    let mut left: u64 = 11;
     while left > 0 {
         sum += power / odd;
         power = power * square / whole;
