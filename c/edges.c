@@ -133,6 +133,75 @@ static void soft_site(uint8_t *end)
     each_measure(rows);
 }
 
+/* A line in which field `which` has a "~" before it, all where it is 13. */
+static void infer(char *inferred, const char *measured, int which)
+{
+    for (int k = 0; *measured; k++) {
+        if (k == which || which == 13)
+            *inferred++ = '~';
+        while (*measured && *measured != ' ')
+            *inferred++ = *measured++;
+        if (*measured)
+            *inferred++ = *measured++;
+    }
+    *inferred = '\0';
+}
+
+/* Whether the line has the rows, one measure and one period of these. */
+static void same_numbers(const double *rows, const double *row)
+{
+    double others[XANHUPIVE_NUMBERS] = {0};
+    double other[XANHUPIVE_COLUMNS] = {0};
+    double median = 0, total = 0;
+    expect(xanhupive_spectrum(line, length, others, XANHUPIVE_NUMBERS) == 0, "an inferred figure is read");
+    expect(memcmp(rows, others, sizeof others) == 0, "measured or inferred, the spectrum is the same");
+    expect(xanhupive_measure(line, length, 21, &median, &total) == 0, "a measure of an inferred figure");
+    expect(median == rows[6 * 21 + 1] && total == rows[6 * 21 + 4], "measured or inferred, a measure is the same");
+    expect(xanhupive_period(line, length, 370, other, XANHUPIVE_COLUMNS) == 0, "a period of an inferred figure");
+    expect(memcmp(row, other, sizeof other) == 0, "measured or inferred, a period is the same");
+}
+
+/* A "~" before each figure by itself, and before all of them. */
+static void origins(uint8_t *end)
+{
+    static const char measured[] = "650 -60 300 45 10000 8000 3000 4000 -30 6000 100 200 2000";
+    static const char *const malformed[] = {"~", "~-", "~-0", "~~5", "-~5", "~05", "5~", "~-~5", "~1000000"};
+    char inferred[sizeof measured + 13];
+    double rows[XANHUPIVE_NUMBERS] = {0};
+    double row[XANHUPIVE_COLUMNS] = {0};
+    request(end, measured);
+    expect(xanhupive_spectrum(line, length, rows, XANHUPIVE_NUMBERS) == 0, "a request with every figure given");
+    expect(xanhupive_period(line, length, 370, row, XANHUPIVE_COLUMNS) == 0, "a period of it");
+    for (int which = 0; which <= 13; which++) {
+        infer(inferred, measured, which);
+        request(end, inferred);
+        same_numbers(rows, row);
+    }
+    for (size_t k = 0; k < sizeof malformed / sizeof *malformed; k++) {
+        char text[100];
+        snprintf(text, sizeof text, "650 %s 760 - 10000 - 3000 4000 30 - - - 2000", malformed[k]);
+        request(end, text);
+        expect(xanhupive_spectrum(line, length, rows, XANHUPIVE_NUMBERS) == XANHUPIVE_MALFORMED, malformed[k]);
+    }
+}
+
+/* The longest request there is, and lines that are longer. */
+static void longest_lines(uint8_t *end)
+{
+    double rows[XANHUPIVE_NUMBERS] = {0};
+    char text[XANHUPIVE_LONGEST_LINE + 2] =
+        "~999999 ~-999999 ~999999 ~999999 ~999999 ~999999 ~999999 ~999999 ~-999999 ~999999 ~999999 ~999999 ~999999";
+    request(end, text);
+    expect(length == 105, "the longest request has 105 bytes");
+    expect(xanhupive_spectrum(line, length, rows, XANHUPIVE_NUMBERS) == 1, "the longest request is read");
+    for (size_t bytes = 106; bytes <= XANHUPIVE_LONGEST_LINE + 1; bytes++) {
+        text[bytes - 1] = '9';
+        request(end, text);
+        expect(length == bytes, "a longer line");
+        expect(xanhupive_spectrum(line, length, rows, XANHUPIVE_NUMBERS) == XANHUPIVE_MALFORMED, "is malformed");
+    }
+}
+
 /* The periods of measures 0 to 20, in thousandths of a second. */
 #define PERIODS 21
 static const uint64_t TABULATED[PERIODS] = {
@@ -287,7 +356,7 @@ int main(void)
     uint8_t *out_end = page_end();
     null_with_length_0(line_end);
     request(line_end, "650 0 760 - 10000 - 3000 4000 30 - - - 2000");
-    every_length(xanhupive_complete_line, "ok 90 10000 3000 5000 2000 eggeg\n", 33, out_end);
+    every_length(xanhupive_complete_line, "ok 90 10000 3000 5000 2000 emmem\n", 33, out_end);
     uint8_t prediction[XANHUPIVE_LONGEST_ANSWER] = {0};
     size_t bytes = xanhupive_predict_line(line, length, prediction, sizeof prediction);
     every_length(xanhupive_predict_line, (const char *)prediction, bytes, out_end);
@@ -297,6 +366,10 @@ int main(void)
     one_measure(line_end);
     spectrum(line_end, out_end);
     soft_site(line_end);
+    origins(line_end);
+    longest_lines(line_end);
+    request(line_end, "~650 ~0 ~760 - ~10000 - 3000 ~4000 30 - - - ~2000");
+    every_length(xanhupive_complete_line, "ok 90 10000 3000 5000 2000 eimei\n", 33, out_end);
     periods(line_end, out_end);
     return counted("edges");
 }

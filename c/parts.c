@@ -20,7 +20,6 @@
 #define AROUND 64
 
 /* The longest line that is read. */
-#define LONGEST_LINE 100
 
 /* Bytes that are enough for the answers to any list of the edges. */
 #define LISTED 16384
@@ -29,7 +28,7 @@
 static const char listing[] = "650 0 760 - 10000 - 3000 4000 30 - - - 2000\n"
                               "851 0 760 - 10000 - 3000 4000 30 - - - 2000\n"
                               "650 90 300 40 10000 - 3000 0 90 - - - 2000\n";
-static const char completed[] = "ok 90 10000 3000 5000 2000 eggeg\nno 2\nno 10\n";
+static const char completed[] = "ok 90 10000 3000 5000 2000 emmem\nno 2\nno 10\n";
 static const size_t listing_length = sizeof listing - 1;
 static const size_t completed_length = sizeof completed - 1;
 
@@ -178,7 +177,7 @@ static struct told call(const struct offer *offer, size_t room)
 /* The answer to a line by itself; gives its length. */
 static size_t answer_to(uint64_t sheet, const uint8_t *line, size_t length, uint8_t *out)
 {
-    if (length > LONGEST_LINE) {
+    if (length > XANHUPIVE_LONGEST_LINE) {
         memcpy(out, malformed, malformed_length);
         return malformed_length;
     }
@@ -411,8 +410,8 @@ static void random_lists(void)
 /* A line of some length with its LF and document 01's listing behind it, or without either. */
 static void long_lines(void)
 {
-    static const size_t lengths[] = {1, 99, 100, 101, 102, 255, 256, 257, 356, 357, 5000, 70000};
-    static const size_t sizes[] = {1, 2, 99, 100, 101, 102, 356, 4000};
+    static const size_t lengths[] = {1, 100, 101, 114, 115, 116, 117, 255, 256, 257, 371, 372, 5000, 70000};
+    static const size_t sizes[] = {1, 2, 114, 115, 116, 117, 371, 4000};
     static uint8_t list[70000 + sizeof listing];
     for (size_t k = 0; k < sizeof lengths / sizeof *lengths; k++) {
         size_t length = lengths[k];

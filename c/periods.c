@@ -14,7 +14,7 @@
 #define DIGITS 20
 
 /* A period, its space, and a line that is longer than any request as far as shows that. */
-#define HELD (DIGITS + 1 + 101)
+#define HELD (DIGITS + 1 + XANHUPIVE_LONGEST_LINE + 1)
 
 /* How many bytes of a line are its period and the space behind it; 0 if it does not begin so. */
 static size_t read_period(const uint8_t *line, size_t length, uint64_t *period) {

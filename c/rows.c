@@ -8,7 +8,7 @@
 #include <stdio.h>
 
 /* A line that is longer than any request is held as far as shows that. */
-#define HELD 101
+#define HELD (XANHUPIVE_LONGEST_LINE + 1)
 
 /* The lines of one request. */
 static void answer(const uint8_t *line, size_t length) {

@@ -5,9 +5,12 @@
  * memset. A valve's controller, short of flash, links libcontroller.a instead, which `rt staticlib controller` writes:
  * it has xanhupive_measure alone, and asks for nothing beside it.
  *
- * A request line is the thirteen fields with single spaces between them, without its LF. It may be any
- * bytes of any length: what is not a request line is refused with number 14. The README has the fields
- * and the table of refusals.
+ * A request line is the thirteen fields with single spaces between them, without its LF: a figure that was measured
+ * is its number, one that the caller inferred, say from a map, has a "~" directly before it and its sign, and a blank
+ * one is "-". Which of them were measured and which inferred changes no number of an answer. The line may be any
+ * bytes of any length: what is not a request line, or has more than XANHUPIVE_LONGEST_LINE bytes, is refused with
+ * number 14. The README has the fields and the table of refusals. Number 26, for a figure that is already marked as
+ * estimated by us, comes from no function here: a line cannot mark one.
  *
  * What the comments below promise is proved of the source that is compiled, for every line, every
  * measure, every period and every length: one possible answer, and one possible state of what was lent.
@@ -41,6 +44,9 @@
 extern "C" {
 #endif
 
+/* The most bytes that a request line may have before its LF. No request has more than 105. */
+#define XANHUPIVE_LONGEST_LINE 115
+
 /* Bytes that are enough for any answer of xanhupive_complete_line, its LF counted. */
 #define XANHUPIVE_LONGEST_COMPLETION 38
 
@@ -70,7 +76,7 @@ extern "C" {
 #define XANHUPIVE_NO_PERIOD 17
 
 /* Bytes of a reader. */
-#define XANHUPIVE_READER 101
+#define XANHUPIVE_READER 116
 
 /* The sheets of a list in parts: the completing program's answers, and the predicting program's. */
 #define XANHUPIVE_COMPLETION 0
@@ -103,8 +109,8 @@ extern "C" {
 #define XANHUPIVE_STACK_CONTROLLER 1200
 
 /*
- * The completing program's answer: "ok", the five figures and their letters, or "no" and the refusal's
- * number, with its LF and no NUL.
+ * The completing program's answer: "ok", the five figures and their letters, m for measured, i for inferred, e for
+ * estimated by us, or "no" and the refusal's number, with its LF and no NUL.
  *
  * Returns how many bytes of the answer now stand at the start of `out`; those behind it are as they
  * were. Returns 0 exactly when the answer is longer than `out_length` (refusal 16), and then no byte

@@ -9,6 +9,12 @@ path is given. Exit 1 on any difference beyond its bound:
 
 - a given figure, a dip, a Z2.5 from Z1.5 or Z1.0, an RRUP off the hanging wall, the letters, the header, the form of a line, the
   number of lines: none may differ;
+- origins: each line with inferred figures, without its tildes, must get from the first program the same answer, m for i among the
+  letters, and the same predictions byte for byte. Each accepted line with what was estimated put in for its blanks, as inferred, must get
+  the same figures, i for e, and the same predictions. A long list must have every field as measured, inferred and, if it may be, blank
+  among its accepted requests. What no line shows is asked of the second program alone: its completed record must say of all thirteen
+  fields what the line says, or what was estimated; sent back it must get 26 exactly if something was estimated, and its own figures once
+  that is marked as inferred; and a request of which any one field is marked as estimated must get 26, whatever else is wrong with it;
 - W, ZTOR, RRUP and Z2.5 estimated: 2 m from the second program's figure before it is rounded, asked for at the first program's own
   figures before it; --rounded as they are rounded, W, ZTOR and Z2.5 down, RRUP up, with 5 mm to spare;
 - a refusal: the same number. The one exception is document 01's: where a completed figure is read, the second program is asked at each
@@ -42,10 +48,15 @@ FINE, LAST = 1000, 0.0005
 BOUNDS = {name: (METRES, METRES) for name in ("w", "ztor", "rrup", "z25")}
 ROUNDED = {"w": (1.005, 0.005), "ztor": (1.005, 0.005), "rrup": (0.005, 1.005), "z25": (1.005, 0.005)}
 WHOLE = rb" (0|[1-9]\d*)"
-OK = re.compile(rb"ok" + 5 * WHOLE + rb" ([eg]{5})\Z")
-FIGURES = re.compile(rb"ok" + 5 * WHOLE + rb" ([eg]{5})" + 4 * WHOLE + rb"\Z")
+OK = re.compile(rb"ok" + 5 * WHOLE + rb" ([mie]{5})\Z")
+FIGURES = re.compile(rb"ok" + 5 * WHOLE + rb" ([mie]{5})" + 4 * WHOLE + rb"\Z")
 NO = re.compile(rb"no ([1-9]\d*)\Z")
 COLUMNS = ["dip", "w", "ztor", "rrup", "z25"]
+PLACES = [NAMES.index(name) for name in COLUMNS]
+# The fields that are estimated where they are blank: the columns and ZHYP, which is not reported.
+FILLED = sorted([*PLACES, NAMES.index("zhyp")])
+# Each field measured and inferred, and blank if it may be.
+ORIGINS = {(name, origin) for name in NAMES for origin in ("measured", "inferred", "blank") if origin != "blank" or name in STARRED}
 ROW = ["ln median", "median", "intra sigma", "inter sigma", "total sigma", "arbitrary sigma"]
 PRINTED = ["ln median", "median", "total sigma"]
 MEASURES = 24
@@ -54,7 +65,8 @@ FALLING = range(1, 9)
 # What the predicting program is asked for with --period: tabulated periods, others, and some out of range; and for how many lines.
 ASKED = [9, 10, 11, 40, 75, 250, 275, 370, 1000, 6000, 10000, 10001]
 PART = 5000
-NO_MEASURE, NO_PERIOD = b"no 15", b"no 17"
+MALFORMED, NO_MEASURE, NO_PERIOD, ESTIMATED_ALREADY = b"no 14", b"no 15", b"no 17", b"no 26"
+EACH_MARKED = b" ".join(len(NAMES) * [b"26"])
 SHOWN = 10
 
 Answer = collections.namedtuple("Answer", "refusal figures letters exact")
@@ -122,14 +134,52 @@ def asked(words, requested, report):
     return [answer(line) for line in answers(words, listed(line_of(fields) for fields in requested), report)]
 
 
-def at_completed(lines, completed):
-    """The accepted requests with all completed figures given, as a list."""
-    return listed(completed_line(line, p) for line, p in zip(lines, completed) if p and p.refusal == 0)
+def sent_back(line, p):
+    """An accepted request with what was estimated put in for its blanks, as inferred."""
+    words = line.split(b" ")
+    for k, name, letter in zip(PLACES, COLUMNS, p.letters):
+        if letter == ord("e"):
+            words[k] = b"~%d" % p.figures[name]
+    return b" ".join(words)
 
 
-def completed_line(line, p):
-    """An accepted request with all completed figures given."""
-    return line_of(at_figures(fields_of(line), p.figures, COLUMNS))
+def measured(line):
+    """A line with every figure measured."""
+    return line.replace(b"~", b"")
+
+
+def relettered(said, old, new):
+    """An answer with one letter for another; a refusal and a prediction have none."""
+    return said[:-5] + said[-5:].replace(old, new) if said.startswith(b"ok ") else said
+
+
+def record_of(line, said):
+    """The completed record of an accepted request, as the second program prints it, by the line and the answer to it."""
+    words = line.split(b" ")
+    m, rake = int(words[0].lstrip(b"~")), int(words[1].lstrip(b"~"))
+    zhyp = 11240 - 2 * m if 30 < abs(rake) < 150 else 5630 + 68 * m // 10
+    estimates = dict(zip(PLACES, said.split(b" ")[1:])) | {NAMES.index("zhyp"): b"%d" % zhyp}
+    for k, word in enumerate(words):
+        if word != b"-":
+            words[k] = word[1:] + b"i" if word.startswith(b"~") else word + b"m"
+        elif k in FILLED:
+            words[k] = estimates[k] + b"e"
+    return b" ".join(words)
+
+
+def records_of(line, said):
+    """What the second program must print for a line with `record`, `marked` and `each-marked`, by the line and the answer to it."""
+    each = MALFORMED if said == MALFORMED else EACH_MARKED
+    if said.startswith(b"no "):
+        return said, said, each
+    words = line.split(b" ")
+    as_it_stands = ESTIMATED_ALREADY if any(words[k] == b"-" for k in FILLED) else said
+    return record_of(line, said), as_it_stands + b"; " + relettered(said, b"e", b"i"), each
+
+
+def origin_of(word):
+    """Where a field's number comes from."""
+    return "blank" if word == b"-" else "inferred" if word.startswith(b"~") else "measured"
 
 
 def row_of(said, number, names):
@@ -179,14 +229,15 @@ class Comparison:
         self.first, self.second, self.report = first, second, report
 
     def completing(self, data, lines):
-        """Compares completed requests; gives the first program's answers, or None where they cannot be told apart."""
+        """Compares completed requests; gives the first program's answers, each None if it has another form, and the lines that it said;
+        none if there are more or less of them than requests."""
         report = self.report
         mine = answers(self.first, data, report)
         theirs = answers([self.second, "complete"], data, report)
         exact = answers([self.second, "figures"], data, report)
         if not len(mine) == len(theirs) == len(exact) == len(lines):
             report.fail(b"", f"{len(lines)} lines, {len(mine)} answers, {len(theirs)} of the second program")
-            return None
+            return [], []
         got, apart = [answer(line) for line in mine], []
         for line, p, a, b, e in zip(lines, got, mine, theirs, exact):
             if p is None:
@@ -197,7 +248,45 @@ class Comparison:
                 self.estimates(line, p, answer(e))
         report.count["apart"] = len(apart)
         self.converse(apart)
-        return got
+        self.records(data, lines, theirs)
+        return got, mine
+
+    def records(self, data, lines, theirs):
+        """Checks the second program's completed records, and what it says to a request with estimated figures, by its answers to the lines;
+        text shows neither."""
+        printed = [run([self.second, name], data).split(b"\n")[:-1] for name in ("record", "marked", "each-marked")]
+        if any(len(said) != len(lines) for said in printed):
+            self.report.fail(b"", f"{len(lines)} lines, {[len(said) for said in printed]} records of the second program")
+            return
+        for line, said, *own in zip(lines, theirs, *printed):
+            wanted = records_of(line, said)
+            if tuple(own) != wanted:
+                self.report.fail(line, f"the second program's records are {own}, which must be {wanted}")
+            self.report.count["records"] += not said.startswith(b"no ")
+            self.report.count["marked"] += own[1].startswith(ESTIMATED_ALREADY)
+            self.report.count["each marked"] += said != MALFORMED
+
+    def origins(self, program, words, lines, sent, said, header=b""):
+        """Checks that where figures come from moves none: what a program said to a line it must say again, but for the letters, to the same
+        without tildes, and to the one that is sent back."""
+        tilded = [(line, text) for line, text in zip(lines, said) if b"~" in line and text != MALFORMED]
+        self.again((program, "measured"), words, header, [(measured(line), relettered(text, b"i", b"m")) for line, text in tilded])
+        accepted = [(line, text) for line, text in zip(sent, said) if line]
+        self.again((program, "sent back"), words, header, [(line, relettered(text, b"e", b"i")) for line, text in accepted])
+
+    def again(self, name, words, header, asked):
+        """Checks what a program says to some lines, each with its answer, byte for byte; tells the first that gets another."""
+        said = run(words, listed(line for line, _ in asked))
+        self.report.count[name] += len(asked)
+        if said == header + listed(answer for _, answer in asked):
+            return
+        rest = iter(said[len(header):].split(b"\n"))
+        for line, text in asked:
+            got = b"\n".join(next(rest, b"") for _ in text.split(b"\n"))
+            if got != text:
+                self.report.fail(line, f"{' '.join(name)}: {got!r}, which must be {text!r}")
+                return
+        self.report.fail(b"", f"{' '.join(name)}: another header, or lines too many")
 
     def converse(self, judgements):
         """Runs judgements side by side: each yields the requests that it asks of a program and is sent the answers."""
@@ -226,7 +315,7 @@ class Comparison:
         report.count["refused"] += p.refusal != s.refusal
         if 14 in (p.refusal, s.refusal) or p.letters and s.letters and p.letters != s.letters:
             return report.fail(line, words)
-        fields = fields_of(line)
+        fields = fields_of(measured(line))
         harmless = {"rjb": 0, "azimuth": 0, "rrup": 200000, "z10": "-", "z15": "-", "z25": 0}
         probe = {**fields, **harmless, "ztor": 0}
         source, source_second = yield [("first", probe), ("figures", probe)]
@@ -278,11 +367,11 @@ class Comparison:
         if p.figures["z25"] != found[0].figures["z25"] and not fields["z25"] == fields["z15"] == fields["z10"] == "-":
             report.fail(line, f"{p} where the second program has {found[0]}")
 
-    def predicting(self, words, names, data, lines, completed):
-        """Compares predictions, with the figures named, at the figures that the first program completed; gives them, none if they have
-        another form."""
-        report = self.report
-        given = at_completed(lines, completed)
+    def predicting(self, words, names, data, lines, completed, sent):
+        """Compares predictions, with the figures named, at the figures that the first program completed; gives what it said to each line,
+        none if that has another form."""
+        report, said = self.report, []
+        given = listed(line for line in sent if line)
         second = run([self.second, "fine"], given).split(b"\n")
         first = run(words, data).split(b"\n")
         if first.pop() != b"" or second.pop() != b"" or len(second) != MEASURES * given.count(b"\n"):
@@ -296,23 +385,24 @@ class Comparison:
                 if first[at:at + 1] != [b"no %d" % p.refusal]:
                     report.fail(line, f"completed to {p}, predicted as {first[at:at + 1]}")
                     return []
+                said.append(first[at])
                 at += 1
                 continue
             mine, others = first[at:at + MEASURES], second[theirs:theirs + MEASURES]
             at, theirs = at + MEASURES, theirs + MEASURES
             if not self.spectrum(line, names, mine, others):
                 return []
+            said.append(b"\n".join(mine))
         if at != len(first):
             report.fail(b"", f"{len(first) - at} lines too many")
-        return first
+        return said
 
     def by_measure(self, words, rows, lines, completed):
         """Compares each measure by itself with the rows, for the lines that have their LF: median and total sigma, byte for byte."""
         said = iter(run(words, listed(lines[:-1])).split(b"\n"))
-        rows = iter(rows)
-        for line, p in zip(lines[:-1], completed):
-            row = [next(rows, b"").split(b" ") for _ in range(1 if p.refusal else MEASURES)]
-            wanted = (MEASURES + 1) * [b"no %d" % p.refusal] if p.refusal else [b" ".join((w[2], w[5])) for w in row] + [NO_MEASURE]
+        for line, p, printed in zip(lines[:-1], completed, rows):
+            row = [text.split(b" ") for text in printed.split(b"\n")]
+            wanted = (MEASURES + 1) * [printed] if p.refusal else [b" ".join((w[2], w[5])) for w in row] + [NO_MEASURE]
             for measure, (a, b) in enumerate(zip(wanted, said)):
                 if a != b:
                     self.report.fail(line, f"measure {measure} by itself is {b!r}, its row has {a!r}")
@@ -341,7 +431,7 @@ class Comparison:
     def at_periods(self, program, words, names, asked, data):
         """Compares a program's answers to a list, one line for each request with its period; gives them, none if there are more or less."""
         accepted = [t for t in asked if t.completed.refusal == 0]
-        given = listed(b"%d %s" % (t.period, completed_line(t.line, t.completed)) for t in accepted)
+        given = listed(b"%d %s" % (t.period, sent_back(t.line, t.completed)) for t in accepted)
         second = run([self.second, "fine-periods"], given).split(b"\n")
         first = run(words, data).split(b"\n")
         if first.pop() != b"" or second.pop() != b"" or len(first) != len(asked) or len(second) != len(accepted):
@@ -369,6 +459,8 @@ class Comparison:
         """Compares rows at periods, and those at tabulated ones with what the program of rows prints, if there is one."""
         data = b"\n".join(b"%d %s" % (t.period, t.line) for t in asked)
         said = self.at_periods("periods", words, ROW, asked, data)
+        tilded = [(t, text) for t, text in zip(asked, said) if b"~" in t.line and text != MALFORMED]
+        self.again(("periods", "measured"), words, b"", [(b"%d %s" % (t.period, measured(t.line)), text) for t, text in tilded])
         if rows and said:
             self.tabulated(rows, [(t, line) for t, line in zip(asked, said) if t.period in PERIODS and t.completed.refusal == 0])
 
@@ -393,9 +485,9 @@ class Comparison:
             asked = [Timed(period, line, p, None) for line, p in part]
             self.at_periods("predict", [*predict, "--period", str(period)], PRINTED, asked, data)
 
-    def raised(self, lines, completed):
+    def raised(self, sent):
         """The measures of each accepted request whose medians the second program raises to PGA's; none where it refuses it."""
-        said = run([self.second, "raised"], at_completed(lines, completed)).decode().split("\n")[:-1]
+        said = run([self.second, "raised"], listed(line for line in sent if line)).decode().split("\n")[:-1]
         return [[] if line.startswith("no ") else [int(k) for k in re.findall(r"\d+", line)] for line in said]
 
     def short_lists(self, predict, timed):
@@ -417,15 +509,29 @@ def asked_at(seed, lines, completed, raised, long):
 
 
 def covered(lines, completed):
-    """The patterns of blank fields among accepted requests, and how often each refusal came."""
-    patterns, refusals = set(), collections.Counter()
+    """How often accepted requests have each pattern of origins, and how often each refusal came."""
+    patterns, refusals = collections.Counter(), collections.Counter()
     for line, p in zip(lines, completed):
         if p and p.refusal == 0:
-            fields = fields_of(line)
-            patterns.add(tuple(fields[name] == "-" for name in STARRED))
+            patterns[tuple(origin_of(word) for word in line.split(b" "))] += 1
         elif p:
             refusals[p.refusal] += 1
     return patterns, refusals
+
+
+def tell_origins(report, patterns, long):
+    """Prints what the origins of figures were compared in; a long list must have each of each field among its accepted requests, and
+    requests with all figures inferred and with none."""
+    count, origins = report.count, {pair for pattern in patterns for pair in zip(NAMES, pattern)} & ORIGINS
+    whole, none = patterns[len(NAMES) * ("inferred",)], sum(n for pattern, n in patterns.items() if "inferred" not in pattern)
+    print(f"origins: {len(origins)} of {len(ORIGINS)} among the accepted, {whole} requests with all thirteen figures inferred, {none} with none")
+    for kind, words in (("measured", "without their tildes"), ("sent back", "with what was estimated sent back as inferred")):
+        programs = [program for program in ("complete", "predict", "periods") if (program, kind) in count]
+        print(f"the same {words}: " + ", ".join(f"{count[program, kind]} of {program}" for program in programs))
+    print(f"records of the second program: {count['records']} compared, {count['marked']} of them refused by 26 as they stand, "
+          f"and {count['each marked']} requests with each field marked as estimated")
+    if long and not (origins == ORIGINS and whole and none):
+        report.fail(b"", "the list leaves out an origin of a field")
 
 
 def tell_raised(report, raised, long):
@@ -531,14 +637,17 @@ def main():
     comparison = Comparison(command(given.complete), given.second or build(), report)
     data = requests(given.seed, given.count)
     lines = data.split(b"\n")
-    completed = comparison.completing(data, lines) or []
+    completed, said = comparison.completing(data, lines)
+    sent = [sent_back(line, p) if p and p.refusal == 0 else None for line, p in zip(lines, completed)]
+    comparison.origins("complete", comparison.first, lines, sent, said, HEADER + b"\n")
     if completed and predict:
-        comparison.predicting(predict, PRINTED, data, lines, completed)
+        printed = comparison.predicting(predict, PRINTED, data, lines, completed, sent)
+        comparison.origins("predict", predict, lines, sent, printed)
     if completed and rows:
-        printed = comparison.predicting(rows, ROW, data, lines, completed)
+        printed = comparison.predicting(rows, ROW, data, lines, completed, sent)
         if printed and given.measures:
             comparison.by_measure(command(given.measures), printed, lines, completed)
-    raised, asked = comparison.raised(lines, completed) if predict or timed else [], []
+    raised, asked = comparison.raised(sent) if predict or timed else [], []
     if completed and timed and all(completed):
         asked = asked_at(given.seed, lines, completed, raised, long)
         comparison.timed(timed, rows, asked)
@@ -547,11 +656,12 @@ def main():
     comparison.short_lists(predict, timed)
 
     patterns, refusals = covered(lines, completed)
-    accepted = sum(p is not None and p.refusal == 0 for p in completed)
-    print(f"seed {given.seed}: {len(lines)} lines, {accepted} accepted, {len(patterns)} of 256 patterns of blank fields among them")
+    accepted, blanks = sum(patterns.values()), {tuple(origin == "blank" for origin in pattern) for pattern in patterns}
+    print(f"seed {given.seed}: {len(lines)} lines, {accepted} accepted, {len(blanks)} of 256 patterns of blank fields among them")
     print("refused: " + ", ".join(f"{n} by {number}" for number, n in sorted(refusals.items())))
-    if given.count >= 20000 and (len(patterns) < 256 or len(refusals) < 14):
+    if given.count >= 20000 and (len(blanks) < 256 or len(refusals) < 14):
         report.fail(b"", "the list leaves out a pattern or a refusal")
+    tell_origins(report, patterns, long)
     if completed and predict:
         tell_raised(report, raised, long)
     tell(report, accepted, ROW if rows else PRINTED if predict else [])

@@ -1,7 +1,8 @@
 #!/usr/bin/env python3
-"""Writes the lists that the programs are tested on: document 01's three lines; each row of its refusal table on both sides of each end;
-each rule for a blank field; and malformed lines of every kind, the last of them without an LF. The predicting program's list is what
-the second program refuses of them: docs/DECISIONS.md says why it holds no other line.
+"""Writes the lists that the programs are tested on: document 01's three lines; each row of its refusal table on both sides of each end,
+measured and inferred; each rule for a blank field; each field measured, inferred and blank; the longest lines that have the form; and
+malformed lines of every kind, the last of them without an LF. The predicting program's list is what the second program refuses of them:
+docs/DECISIONS.md says why it holds no other line.
 
     python3 second/list.py complete > crates/complete/stdin
     python3 second/list.py predict > crates/predict/stdin
@@ -11,7 +12,12 @@ import sys
 from programs import build, listed, run
 
 NAMES = "m rake vs30 dip w zhyp ztor rjb azimuth rrup z10 z15 z25".split()
+STARRED = "dip w zhyp ztor rrup z10 z15 z25".split()
+SIGNED = "rake azimuth".split()
 PLAIN = dict(zip(NAMES, "650 0 760 - 10000 - 3000 4000 30 - - - 2000".split()))
+GIVEN = dict(zip(NAMES, "650 -90 760 50 10000 8000 3000 4000 -30 6000 400 800 2000".split()))
+# What a tilde may not stand before, behind or alone for.
+TILDES = ["~", "~-", "~~5", "-~5", "~-0", "~05", "5~", "~ 5", "~-05", "-~", "~+5", "~--5", "~5~", "~1000000", "~-1000000"]
 lines = []
 
 
@@ -22,9 +28,11 @@ def line(**changes):
 
 
 def ends(name, *values, **others):
-    """A line for each value of one field."""
+    """A line for each value of one field, and one with it inferred."""
     for value in values:
         line(**{**others, name: value})
+        if value != "-":
+            line(**{**others, name: f"~{value}"})
 
 
 # ---- document 01's listing
@@ -89,7 +97,35 @@ ends("azimuth", 10, 50, 90, 130, dip=40, rjb=30000, ztor=0)
 ends("azimuth", 10, 50, 90, 130, dip=60, rjb=700, ztor=9000)
 ends("rjb", 1, 100, 6000, 9000, 25000, 120000, 198000, dip=25, w=20000, azimuth=70)
 
+# ---- origins: each field another than the rest, which are measured or inferred; and the least that may be given
+for mark, other in (("", "~"), ("~", "")):
+    rest = {name: mark + number for name, number in GIVEN.items()}
+    line(**rest)
+    for name in NAMES:
+        line(**{**rest, name: other + GIVEN[name]})
+        line(**{**rest, name: "-"})
+    line(**{**rest, "z15": "-", "z25": "-"})
+    line(**{**rest, **{name: "-" for name in STARRED}})
+
+# ---- as long as the form allows, 105 bytes, and a little shorter and longer
+full = {name: "~-999999" if name in SIGNED else "~999999" for name in NAMES}
+line(**full)
+line(**{**full, "z25": "999999"})
+line(**{**full, "w": "~9999"})
+line(**{**full, **{name: "999999" for name in ("m", "dip", "rrup", "z25")}})
+line(**{**full, **{name: "999999" for name in ("m", "dip", "w", "rrup", "z25")}})
+line(**{**full, "rake": "~-180"})
+line(**{**full, "rake": "~-180", "m": "~650"})
+line(**{**full, "z25": "~9999999"})
+line(**{**full, "z25": "~~999999"})
+line(**{**full, "m": "~-999999"})
+
 # ---- malformed
+for name in ("m", "rake", "dip", "azimuth", "z25"):
+    for word in TILDES:
+        line(**{name: word})
+for name in ("m", "dip", "rrup", "z25"):
+    line(**{name: "~-5"})
 whole = b" ".join(PLAIN[name].encode() for name in NAMES)
 lines += [
     b"",
@@ -129,10 +165,12 @@ lines += [
     b"- - - - - - - - - - - -",
     b"- - - - - - - - - - - - - -",
     b"999999 -999999 999999 999999 999999 999999 999999 999999 -999999 999999 999999 999999 999999",
-    b"9" * 100,
-    b"9" * 101,
-    whole + b" " * (100 - len(whole)),
-    whole + b" " * (101 - len(whole)),
+    b"~ ~ ~ ~ ~ ~ ~ ~ ~ ~ ~ ~ ~",
+    b"~- ~- ~- ~- ~- ~- ~- ~- ~- ~- ~- ~- ~-",
+    whole.replace(b" ", b" ~"),
+    whole.replace(b" ", b"~ "),
+    *(b"9" * size for size in (100, 101, 105, 115, 116)),
+    *(whole + b" " * (size - len(whole)) for size in (100, 101, 104, 105, 115, 116)),
     b"x" * 300,
     b"dip W ZTOR RRUP Z25 from",
     whole,

@@ -11,6 +11,10 @@
        second fine-periods    as periods, each figure in thousandths of its reported unit
        second raised          the measures whose median is PGA's, since their own is lower, with a semicolon between; - for none
        second figures         as complete, what was estimated untested (see request.c), with W, ZTOR, RRUP and Z2.5 in mm behind it
+       second record          the completed record: thirteen numbers, each with the letter of its origin behind it, - for a blank
+       second marked          the completed record sent back as it stands, and with what was estimated marked as inferred: both answers
+                              as complete has them, a semicolon and a space between; a refused request's refusal
+       second each-marked     the request thirteen times, each time with one field marked as estimated by us: the refusals' numbers
 
    A period is any whole number of 64 bits, of 20 digits at most. */
 #include <limits.h>
@@ -43,10 +47,14 @@ struct command {
 
 /* A completed request's line without its LF. */
 static void print_completed(const struct completed *c) {
-    if (c->refusal)
+    const struct field *f = c->record.field;
+    char letters[6];
+    if (c->refusal) {
         printf("no %d", c->refusal);
-    else
-        printf("ok %ld %ld %ld %ld %ld %s", c->dip, c->w, c->ztor, c->rrup, c->z25, c->from);
+        return;
+    }
+    letters_of(c, letters);
+    printf("ok %ld %ld %ld %ld %ld %s", f[F_DIP].number, f[F_W].number, f[F_ZTOR].number, f[F_RRUP].number, f[F_Z25].number, letters);
 }
 
 /* The line of `complete`. */
@@ -63,6 +71,65 @@ static void answer_figures(const struct asked *asked) {
     if (!c.refusal)
         printf(" %lld %lld %lld %lld", llround(c.exact.w * 1e3), llround(c.exact.ztor * 1e3),
             llround(c.exact.rrup * 1e3), llround(c.exact.z25 * 1e3));
+    putchar('\n');
+}
+
+/* A field of a completed record: its number and the letter of its origin, or - for a blank. */
+static void print_field(const struct field *field) {
+    if (!is_blank(field))
+        printf("%ld", field->number);
+    putchar(letter_of(field->origin));
+}
+
+/* The thirteen fields of a completed record. */
+static void print_record(const struct request *record) {
+    for (int k = 0; k < FIELDS; k++) {
+        if (k)
+            putchar(' ');
+        print_field(&record->field[k]);
+    }
+}
+
+/* The line of `record`. */
+static void answer_record(const struct asked *asked) {
+    struct completed c = complete_request(&asked->request);
+    if (c.refusal)
+        print_completed(&c);
+    else
+        print_record(&c.record);
+    putchar('\n');
+}
+
+/* A completed record as a request that may be sent: what was estimated is marked as inferred. */
+static struct request as_inferred(const struct request *record) {
+    struct request request = *record;
+    for (int k = 0; k < FIELDS; k++)
+        if (request.field[k].origin == ESTIMATED)
+            request.field[k].origin = INFERRED;
+    return request;
+}
+
+/* The line of `marked`. */
+static void answer_marked(const struct asked *asked) {
+    struct completed c = complete_request(&asked->request);
+    if (!c.refusal) {
+        struct request inferred = as_inferred(&c.record);
+        struct completed as_it_stands = complete_request(&c.record);
+        print_completed(&as_it_stands);
+        printf("; ");
+        c = complete_request(&inferred);
+    }
+    print_completed(&c);
+    putchar('\n');
+}
+
+/* The line of `each-marked`. */
+static void answer_each_marked(const struct asked *asked) {
+    for (int k = 0; k < FIELDS; k++) {
+        struct request request = asked->request;
+        request.field[k].origin = ESTIMATED;
+        printf(k ? " %d" : "%d", complete_request(&request).refusal);
+    }
     putchar('\n');
 }
 
@@ -173,6 +240,9 @@ static const struct command COMMANDS[] = {
     {"fine-periods", answer_fine_periods, EACH_LINE},
     {"raised", answer_raised, NO_SOURCE},
     {"figures", answer_figures, NO_SOURCE},
+    {"record", answer_record, NO_SOURCE},
+    {"marked", answer_marked, NO_SOURCE},
+    {"each-marked", answer_each_marked, NO_SOURCE},
 };
 #define COMMANDS_COUNT (sizeof COMMANDS / sizeof COMMANDS[0])
 
@@ -251,7 +321,8 @@ int main(int count, char **words) {
     unsigned long long period = 0;
     const struct command *command = command_of(count, words, &period);
     if (command == NULL) {
-        fputs("second complete|predict|rows|fine|periods|fine-periods|raised|figures, second period T\n", stderr);
+        fputs("second complete|predict|rows|fine|periods|fine-periods|raised|figures|record|marked|each-marked, second period T\n",
+            stderr);
         return 2;
     }
     if (command->to == answer_complete || command->to == answer_figures)

@@ -1,8 +1,9 @@
 #!/usr/bin/env python3
 """Requests for the comparison. First, the same in every long list: each magnitude of each style, each Vs30, dip, azimuth and rake, soft
-sites near a fault, and odd words in each field. Then random ones: every pattern of blank fields, values at and beside each branch of the rules, lines with
-fields out of range, lines at a limit that a completed figure decides, and malformed lines. The same seed gives the same list. And
-periods for the requests of a list.
+sites near a fault, each field measured, inferred and blank, and odd words in each field. Then random ones: every pattern of blank fields,
+values at and beside each branch of the rules, lines with fields out of range, lines at a limit that a completed figure decides, and
+malformed lines; in all of these about one given figure in four is inferred. The same seed gives the same list. And periods for the
+requests of a list.
 
     python3 second/random_requests.py SEED COUNT > list
 """
@@ -12,6 +13,7 @@ import sys
 
 NAMES = "m rake vs30 dip w zhyp ztor rjb azimuth rrup z10 z15 z25".split()
 STARRED = "dip w zhyp ztor rrup z10 z15 z25".split()
+SIGNED = "rake azimuth".split()
 TOP = {"strike-slip": 850, "reverse": 800, "normal": 750}
 RAKES = {
     "strike-slip": [-180, -179, -151, -150, -30, -29, 0, 29, 30, 150, 151, 179, 180],
@@ -62,7 +64,13 @@ PERIODS = [10, 20, 30, 50, 75, 100, 150, 200, 250, 300, 400, 500, 750, 1000, 150
 EVERY_PERIOD = range(PERIODS[0], PERIODS[-1] + 1)
 NO_PERIODS = [0, 1, 9, 10001, 2**16 + 10, 2**32 + 370, 2**63 + 370, 2**64 - 1]
 LONG = 1000
-WORDS = ["", "-", "--", "-0", "00", "01", "-01", "-1", "+1", "1-", "0.5", "1e3", "~5", "x", "999999", "1000000", "-999999", "-1000000"]
+WORDS = ["", "-", "--", "-0", "00", "01", "-01", "-1", "+1", "1-", "0.5", "1e3", "x", "999999", "1000000", "-999999", "-1000000"]
+# The same with a tilde: inferred figures, and what is malformed since the tilde stands elsewhere or before something else.
+WORDS += ["~0", "~5", "~-5", "~999999", "~-999999", "~", "~-", "-~", "~~", "~~5", "-~5", "~-0", "~05", "~-05", "5~", "~5~", "5~5", "~ 5"]
+WORDS += ["~+5", "~--5", "~-~5", "~x", "~1000000", "~-1000000"]
+# A line of the form has 105 bytes at most; one may have 115.
+FORM_BYTES = 105
+SIZES = [99, 100, 101, 102, 103, 104, 105, 106, 114, 115, 116, 117]
 
 
 def spread(some, high):
@@ -158,29 +166,46 @@ def refused(some, pattern):
     return fields
 
 
+def inferred(some, fields):
+    """Fields of which some are inferred: none, all that are given, most often one in four."""
+    share, = some.choices([0, 0.25, 1], [0.15, 0.8, 0.05])
+    return {name: number if number == "-" or some.random() >= share else f"~{number}" for name, number in fields.items()}
+
+
 def line_of(fields):
     """The fields as a line."""
     return " ".join(str(fields[name]) for name in NAMES).encode()
+
+
+def long_line(some, size):
+    """A line of so many bytes, most of them digits: of the form up to its greatest length, made longer at its end above that."""
+    words = [("~-" if name in SIGNED else "~") + str(some.randint(100000, 999999)) for name in NAMES]
+    for k in some.sample(range(len(words)), max(0, FORM_BYTES - size)):
+        words[k] = words[k].replace("~", "")
+    line = " ".join(words).encode()
+    return line + (size - len(line)) * some.choice([b" ", b"9", b"~", b"-"])
 
 
 def spoiled(some, line):
     """A line with something wrong in its bytes; now and then it stays well-formed."""
     words = line.split(b" ")
     k, at = some.randrange(13), some.randrange(len(line) + 1)
+    odd = [word.encode() for word in WORDS] + [byte + words[k] for byte in (b"0", b"-", b"~")]
     return some.choice([
         lambda: line[:at] + line[at + 1:],
         lambda: line[:at] + bytes([some.randrange(256)]) + line[at:],
         lambda: line[:at] + bytes([some.randrange(256)]) + line[at + 1:],
         lambda: line[:at] + some.choice([b" ", b"-", b"0", b"\0", b"\r", b"\t", b"\n", b"+", b".", b"~", b"\xff"]) + line[at:],
-        lambda: b" ".join(words[:k] + [some.choice([*(w.encode() for w in WORDS), b"0" + words[k], b"-" + words[k]])] + words[k + 1:]),
+        lambda: b" ".join(words[:k] + [some.choice(odd)] + words[k + 1:]),
         lambda: b" ".join(words[:k] + words[k + 1:]),
         lambda: b" ".join(words[:k] + [b"-"] + words[k:]),
         lambda: b" ".join(words[:k] + [b""] + words[k:]),
         lambda: some.choice([line + b" ", b" " + line, line + b"\r", line + b"\0", line + b" -", b""]),
-        lambda: (line + b" " * 200)[:some.choice([99, 100, 101, 102, 200])],
-        lambda: some.choice([b"9", b"-", b" ", b"x", b"\0"]) * some.choice([1, 13, 100, 101, 255, 5000]),
-        lambda: bytes(some.randrange(256) for _ in range(some.randrange(120))),
-        lambda: b" ".join(some.choice([b"-", b"0", b"1", b"-1", b"999999"]) for _ in range(some.choice([12, 13, 13, 13, 14]))),
+        lambda: (line + b" " * 200)[:some.choice([*SIZES, 200])],
+        lambda: long_line(some, some.choice(SIZES)),
+        lambda: some.choice([b"9", b"-", b" ", b"x", b"~", b"\0"]) * some.choice([1, 13, *SIZES, 255, 5000]),
+        lambda: bytes(some.randrange(256) for _ in range(some.randrange(140))),
+        lambda: b" ".join(some.choices([b"-", b"0", b"1", b"-1", b"~1", b"~-1", b"999999"], k=some.choice([12, 13, 13, 13, 14]))),
     ])()
 
 
@@ -205,7 +230,7 @@ def every():
     for dip in ("-", 15, 89, 90):
         for rjb in (0, 1):
             for azimuth in (-90, 0, 1, 89, 90, 91, 179, 180):
-                for rrup in ("-", 9000):
+                for rrup in ("-", 9000, "~9000"):
                     for rake in (0, 90):
                         yield {**whole, "rake": rake, "dip": dip, "rjb": rjb, "azimuth": azimuth, "rrup": rrup}
     for m in (599, 600, 601, 625, 649, 650, 651, 652):
@@ -219,6 +244,13 @@ def every():
         for m in (600, 650, 700, 750, 800):
             for rrup in (1000, 3000, 10000):
                 yield {**whole, "m": m, "vs30": vs30, "dip": 45, "w": 20000, "ztor": 1000, "rjb": 0, "rrup": rrup, "z25": 10000}
+    # each field measured, inferred and blank, the others measured or inferred
+    given = dict(zip(NAMES, "650 -90 300 45 12000 9000 2000 7000 -60 9000 100 200 1500".split()))
+    for mark in ("", "~"):
+        others = {name: mark + number for name, number in given.items()}
+        for name in NAMES:
+            for word in (given[name], "~" + given[name], "-"):
+                yield {**others, name: word}
     for name in NAMES:
         for word in WORDS:
             yield {**whole, name: word}
@@ -228,26 +260,25 @@ def refused_lists():
     """Short lists without an accepted line, most of them unfinished."""
     whole = b"650 90 300 - - - - 7000 60 - - - -"
     short = [b"", b"\n", b"\n\n", b"6", b"-", b"\0", whole, whole[:-1] + b"\n" + whole]
-    return short + [b"x" * 100, b"x" * 101, b"x" * 100 + b"\n" + b"x" * 101 + b"\n", b"x" * 200000]
+    short += [b"~", b"~\n", b"~-\n", whole.replace(b"650", b"~650"), whole.replace(b"-", b"~-") + b"\n"]
+    full = b" ".join(b"~-999999" if name in SIGNED else b"~999999" for name in NAMES)
+    short += [full, full + b"\n", full + b" \n", full + b"9\n" + full]
+    return short + [b"x" * 115, b"x" * 116, b"x" * 115 + b"\n" + b"x" * 116 + b"\n", b"x" * 200000]
+
+
+def drawn(some, pattern):
+    """A random line: of one of the kinds above, some of the plain ones spoiled."""
+    kind, = some.choices([plain, folded, hanging, refused, None], [66, 10, 4, 12, 8])
+    line = line_of(inferred(some, (kind or plain)(some, pattern)))
+    return line if kind else spoiled(some, line)
 
 
 def requests(seed, count):
     """The list: each value once if it is to be long, `count` random lines or a few more, the last one unfinished."""
     some = random.Random(seed)
-    lines = [line_of(fields) for fields in every()] if count >= LONG else []
-    for k in range(count):
-        u, pattern = some.random(), k % 256
-        if u < 0.66:
-            lines.append(line_of(plain(some, pattern)))
-        elif u < 0.76:
-            lines.append(line_of(folded(some, pattern)))
-        elif u < 0.80:
-            lines.append(line_of(hanging(some, pattern)))
-        elif u < 0.92:
-            lines.append(line_of(refused(some, pattern)))
-        else:
-            lines.append(spoiled(some, line_of(plain(some, pattern))))
-    return b"\n".join(lines) + b"\n" + some.choice([lines[0], b"65", b"\0", b"-"])
+    lines = [line_of(fields) for fields in every()] + [long_line(some, size) for size in SIZES] if count >= LONG else []
+    lines += [drawn(some, k % 256) for k in range(count)]
+    return b"\n".join(lines) + b"\n" + some.choice([lines[0], b"65", b"\0", b"-", b"~5"])
 
 
 def drawn_period(some):

@@ -8,17 +8,33 @@
 /* Less than this above a whole metre is taken for that metre when rounding up: the error of a double lies well below it. */
 #define MICROMETRE 1e-6
 
-/* A field from its bytes; 0 if they are neither a number of the text form nor one '-'. */
+/* Whether a field has a number of the caller's, measured or inferred: what document 01 calls given. */
+int is_given(const struct field *field) {
+    return field->origin == MEASURED || field->origin == INFERRED;
+}
+
+/* Whether a field has no number. */
+int is_blank(const struct field *field) {
+    return field->origin == BLANK;
+}
+
+/* The letter that an origin is shown by. */
+char letter_of(enum origin origin) {
+    return "mie-"[origin];
+}
+
+/* A field from its bytes; 0 if they are neither a number of the text form, with a '~' before it if it is inferred, nor one '-'. */
 static int parse_field(const char *bytes, size_t size, int may_be_negative, struct field *field) {
-    size_t negative = size > 0 && bytes[0] == '-';
-    field->given = 0;
+    size_t inferred = size > 0 && bytes[0] == '~';
+    size_t negative = size > inferred && bytes[inferred] == '-';
+    field->origin = BLANK;
     field->number = 0;
     if (negative && size == 1)
         return 1;
     if (negative && !may_be_negative)
         return 0;
-    const char *digits = bytes + negative;
-    size_t count = size - negative;
+    const char *digits = bytes + inferred + negative;
+    size_t count = size - inferred - negative;
     if (count < 1 || count > 6 || (digits[0] == '0' && (count > 1 || negative)))
         return 0;
     for (size_t k = 0; k < count; k++) {
@@ -26,7 +42,7 @@ static int parse_field(const char *bytes, size_t size, int may_be_negative, stru
             return 0;
         field->number = 10 * field->number + (digits[k] - '0');
     }
-    field->given = 1;
+    field->origin = inferred ? INFERRED : MEASURED;
     if (negative)
         field->number = -field->number;
     return 1;
@@ -92,7 +108,7 @@ static double estimate_width(enum style style, long m) {
 
 /* The hypocentre's depth in tenths of a metre (000, equation 4). */
 static long hypocentre(const struct field *zhyp, enum style style, long m) {
-    if (zhyp->given)
+    if (is_given(zhyp))
         return 10 * zhyp->number;
     return style == STRIKE_SLIP ? 56300 + 68 * m : 112400 - 20 * m;
 }
@@ -151,9 +167,9 @@ static long reported_distance(double exact, long rjb, long ztor) {
 
 /* Z2.5 where none is given (000, equations 23, 25 and 26). */
 static double estimate_basin(const struct field *z15, const struct field *z10, long vs30) {
-    if (z15->given)
+    if (is_given(z15))
         return 636 + 1549 * (double)z15->number / 1000;
-    if (z10->given)
+    if (is_given(z10))
         return 519 + 3595 * (double)z10->number / 1000;
     double v = (double)vs30;
     double ln_z = v < 180 ? 6.745 : v <= 500 ? 6.745 - 1.35 * log(v / 180) : 5.394 - 4.48 * log(v / 500);
@@ -162,12 +178,12 @@ static double estimate_basin(const struct field *z15, const struct field *z10, l
 
 /* Whether a field is given and outside its range. */
 static int outside(const struct field *field, long low, long high) {
-    return field->given && (field->number < low || field->number > high);
+    return is_given(field) && (field->number < low || field->number > high);
 }
 
 /* Whether a field without a star is blank or outside its range. */
 static int missing(const struct field *field, long low, long high) {
-    return !field->given || outside(field, low, high);
+    return is_blank(field) || outside(field, low, high);
 }
 
 /* A refusal: its number and zeros in all else. */
@@ -192,49 +208,78 @@ static int source_refusal(const struct field *f) {
     return outside(&f[F_ZHYP], 0, 30000) ? 6 : 0;
 }
 
-/* Completes a request, W, ZTOR and Z2.5 rounded down; where `limits` is 0 what was estimated is not tested, nor a given RRUP against
-   it (7, 11, 12, 13). */
+/* 26: whether a field is marked as estimated by us already, which only a record in memory can be. */
+static int has_estimate(const struct field *f) {
+    for (int k = 0; k < FIELDS; k++)
+        if (f[k].origin == ESTIMATED)
+            return 1;
+    return 0;
+}
+
+/* Puts an estimate where a field is blank; a given one stays as it is. */
+static void fill(struct field *field, long number) {
+    if (is_blank(field))
+        *field = (struct field){ESTIMATED, number};
+}
+
+/* Fills dip, W, ZHYP and ZTOR, W and ZTOR rounded down; ZTOR is reckoned from the tenths of a metre that ZHYP has no place for. */
+static void fill_source(struct completed *c) {
+    struct field *f = c->record.field;
+    long m = f[F_M].number, tenths = hypocentre(&f[F_ZHYP], c->style, m);
+    fill(&f[F_DIP], estimate_dip(c->style));
+    c->exact.w = is_given(&f[F_W]) ? (double)f[F_W].number : estimate_width(c->style, m);
+    fill(&f[F_W], (long)floor(c->exact.w));
+    fill(&f[F_ZHYP], tenths / 10);
+    c->exact.ztor = is_given(&f[F_ZTOR]) ? (double)f[F_ZTOR].number : estimate_top(tenths, f[F_W].number, f[F_DIP].number);
+    fill(&f[F_ZTOR], (long)floor(c->exact.ztor));
+}
+
+/* Fills RRUP once dip, W and ZTOR are there. */
+static void fill_distance(struct completed *c) {
+    struct field *f = c->record.field;
+    long ztor = f[F_ZTOR].number, rjb = f[F_RJB].number;
+    c->exact.rrup = (double)f[F_RRUP].number;
+    if (is_given(&f[F_RRUP]))
+        return;
+    c->exact.rrup = estimate_distance(f[F_DIP].number, f[F_W].number, ztor, rjb, f[F_AZIMUTH].number);
+    fill(&f[F_RRUP], reported_distance(c->exact.rrup, rjb, ztor));
+}
+
+/* Fills Z2.5, rounded down; Z1.0 and Z1.5 stay blank where they are. */
+static void fill_basin(struct completed *c) {
+    struct field *f = c->record.field;
+    c->exact.z25 = is_given(&f[F_Z25]) ? (double)f[F_Z25].number : estimate_basin(&f[F_Z15], &f[F_Z10], f[F_VS30].number);
+    fill(&f[F_Z25], (long)floor(c->exact.z25));
+}
+
+/* Completes a request; where `limits` is 0 what was estimated is not tested, nor a given RRUP against it (7, 11, 12, 13). */
 static struct completed complete(const struct request *request, int limits) {
-    const struct field *f = request->field;
-    struct completed c = {0};
-    int refusal = source_refusal(f);
+    struct completed c = {.record = *request};
+    const struct field *f = c.record.field;
+    int refusal = has_estimate(f) ? ESTIMATED_ALREADY : source_refusal(f);
     if (refusal)
         return refused(refusal);
     c.style = style_of(f[F_RAKE].number);
-    c.m = f[F_M].number;
-    c.vs30 = f[F_VS30].number;
-    c.dip = f[F_DIP].given ? f[F_DIP].number : estimate_dip(c.style);
-    c.exact.w = f[F_W].given ? (double)f[F_W].number : estimate_width(c.style, c.m);
-    c.w = (long)floor(c.exact.w);
-    c.exact.ztor = f[F_ZTOR].given ? (double)f[F_ZTOR].number
-                                   : estimate_top(hypocentre(&f[F_ZHYP], c.style, c.m), c.w, c.dip);
-    c.ztor = (long)floor(c.exact.ztor);
-    if ((limits || f[F_ZTOR].given) && c.ztor > 15000)
+    fill_source(&c);
+    if ((limits || is_given(&f[F_ZTOR])) && f[F_ZTOR].number > 15000)
         return refused(7);
     if (missing(&f[F_RJB], 0, 200000))
         return refused(8);
     if (missing(&f[F_AZIMUTH], -180, 180))
         return refused(9);
-    c.rjb = f[F_RJB].number;
-    if (!f[F_RRUP].given && c.dip < 90 && c.rjb == 0 && f[F_AZIMUTH].number == 90)
+    if (is_blank(&f[F_RRUP]) && f[F_DIP].number < 90 && f[F_RJB].number == 0 && f[F_AZIMUTH].number == 90)
         return refused(10);
-    c.exact.rrup = f[F_RRUP].given ? (double)f[F_RRUP].number
-                                   : estimate_distance(c.dip, c.w, c.ztor, c.rjb, f[F_AZIMUTH].number);
-    c.rrup = f[F_RRUP].given ? f[F_RRUP].number : reported_distance(c.exact.rrup, c.rjb, c.ztor);
-    if ((limits || f[F_RRUP].given) && c.rrup > 200000)
+    fill_distance(&c);
+    if ((limits || is_given(&f[F_RRUP])) && f[F_RRUP].number > 200000)
         return refused(11);
-    long long r = c.rrup, b = c.rjb, z = c.ztor;
-    if (limits && f[F_RRUP].given && (r + 1) * (r + 1) < b * b + z * z)
+    long long r = f[F_RRUP].number, b = f[F_RJB].number, z = f[F_ZTOR].number;
+    if (limits && is_given(&f[F_RRUP]) && (r + 1) * (r + 1) < b * b + z * z)
         return refused(12);
     if (outside(&f[F_Z10], 0, 10000) || outside(&f[F_Z15], 0, 10000))
         return refused(13);
-    c.exact.z25 = f[F_Z25].given ? (double)f[F_Z25].number : estimate_basin(&f[F_Z15], &f[F_Z10], c.vs30);
-    c.z25 = (long)floor(c.exact.z25);
-    if ((limits || f[F_Z25].given) && c.z25 > 10000)
+    fill_basin(&c);
+    if ((limits || is_given(&f[F_Z25])) && f[F_Z25].number > 10000)
         return refused(13);
-    const enum field_name columns[] = {F_DIP, F_W, F_ZTOR, F_RRUP, F_Z25};
-    for (int k = 0; k < 5; k++)
-        c.from[k] = f[columns[k]].given ? 'g' : 'e';
     return c;
 }
 
@@ -248,16 +293,25 @@ struct completed estimate_request(const struct request *request) {
     return complete(request, 0);
 }
 
-/* A completed request in the units of the equations. */
+/* The letters of a completed request's five columns, where each figure comes from, and a 0 byte. */
+void letters_of(const struct completed *c, char letters[6]) {
+    const enum field_name columns[] = {F_DIP, F_W, F_ZTOR, F_RRUP, F_Z25};
+    for (int k = 0; k < 5; k++)
+        letters[k] = letter_of(c->record.field[columns[k]].origin);
+    letters[5] = 0;
+}
+
+/* A completed request in the units of the equations; where a figure comes from moves none of them. */
 struct figures figures_of(const struct completed *c) {
+    const struct field *from = c->record.field;
     struct figures f;
     f.style = c->style;
-    f.m = (double)c->m / 100;
-    f.vs30 = (double)c->vs30;
-    f.dip = (double)c->dip;
-    f.ztor = (double)c->ztor / 1000;
-    f.rjb = (double)c->rjb / 1000;
-    f.rrup = (double)c->rrup / 1000;
-    f.z25 = (double)c->z25 / 1000;
+    f.m = (double)from[F_M].number / 100;
+    f.vs30 = (double)from[F_VS30].number;
+    f.dip = (double)from[F_DIP].number;
+    f.ztor = (double)from[F_ZTOR].number / 1000;
+    f.rjb = (double)from[F_RJB].number / 1000;
+    f.rrup = (double)from[F_RRUP].number / 1000;
+    f.z25 = (double)from[F_Z25].number / 1000;
     return f;
 }

@@ -1,6 +1,7 @@
 #!/usr/bin/env python3
 """Shows that the comparison can fail: the second program with one thing wrong takes the place of the proved programs, and
-second/compare.py must refuse it; with another rounding within the bounds it must pass.
+second/compare.py must refuse it; with another rounding within the bounds it must pass. Some take the place of both, where no answer
+differs and the comparison must refuse what a program's answers and records show by themselves.
 
     python3 second/wrong.py [--tables] [--lines N]
 
@@ -55,14 +56,14 @@ WRONG = [
     ("request.c", "ceil(exact - MICROMETRE)", "ceil(exact + 3)"),
     ("request.c", "636 + 1549 *", "636 + 1550 *"),
     ("request.c", "519 + 3595 *", "519 + 3596 *"),
-    ("request.c", "(long)floor(c.exact.z25)", "(long)ceil(c.exact.z25)"),
-    ("request.c", "(long)floor(c.exact.w)", "(long)floor(c.exact.w) + f[F_W].given"),
-    ("request.c", "(long)floor(c.exact.ztor)", "(long)floor(c.exact.ztor) + f[F_ZTOR].given"),
-    ("request.c", "f[F_RRUP].given ? f[F_RRUP].number : reported", "f[F_RRUP].given ? f[F_RRUP].number + 1 : reported"),
-    ("request.c", "(long)floor(c.exact.z25)", "(long)floor(c.exact.z25) + f[F_Z25].given"),
-    ("request.c", "c.dip = f[F_DIP].given ? f[F_DIP].number", "c.dip = f[F_DIP].given && f[F_DIP].number > 15 ? f[F_DIP].number"),
-    ("request.c", "c.from[k] = f[columns[k]].given ? 'g' : 'e';", "c.from[k] = f[columns[k]].given ? 'e' : 'g';"),
-    ("request.c", "if (z15->given)", "if (z15->given && !z10->given)"),
+    ("request.c", "(long)floor(c->exact.z25)", "(long)ceil(c->exact.z25)"),
+    ("request.c", "fill(&f[F_W],", "f[F_W].number += is_given(&f[F_W]), fill(&f[F_W],"),
+    ("request.c", "fill(&f[F_ZTOR],", "f[F_ZTOR].number += is_given(&f[F_ZTOR]), fill(&f[F_ZTOR],"),
+    ("request.c", "c->exact.rrup = (double)f[F_RRUP].number;", "f[F_RRUP].number += is_given(&f[F_RRUP]);"),
+    ("request.c", "fill(&f[F_Z25],", "f[F_Z25].number += is_given(&f[F_Z25]), fill(&f[F_Z25],"),
+    ("request.c", "fill(&f[F_DIP], estimate_dip", "f[F_DIP].number += 3 * (f[F_DIP].number == 15), fill(&f[F_DIP], estimate_dip"),
+    ("request.c", '"mie-"[origin]', '"eim-"[origin]'),
+    ("request.c", "if (is_given(z15))", "if (is_given(z15) && !is_given(z10))"),
     ("request.c", "v < 180 ? 6.745", "v < 190 ? 6.745"),
     ("request.c", "v <= 500 ?", "v < 500 ?"),
     ("request.c", "6.745 - 1.35 * log", "6.745 - 1.36 * log"),
@@ -77,25 +78,25 @@ WRONG = [
     ("request.c", "&f[F_W], 1, 100000", "&f[F_W], 0, 100000"),
     ("request.c", "&f[F_W], 1, 100000", "&f[F_W], 1, 99999"),
     ("request.c", "&f[F_ZHYP], 0, 30000", "&f[F_ZHYP], 0, 30001"),
-    ("request.c", "(limits || f[F_ZTOR].given) && c.ztor > 15000", "f[F_ZTOR].given && c.ztor > 15000"),
-    ("request.c", "(limits || f[F_ZTOR].given) && c.ztor > 15000", "(limits || f[F_ZTOR].given) && c.ztor > 15001"),
-    ("request.c", "(limits || f[F_ZTOR].given) && c.ztor > 15000", "(limits || f[F_ZTOR].given) && c.ztor > 15000 + !f[F_ZTOR].given"),
-    ("request.c", "(limits || f[F_ZTOR].given) && c.ztor > 15000", "(limits || f[F_ZTOR].given) && c.ztor > 15000 - 3 * !f[F_ZTOR].given"),
+    ("request.c", "(limits || is_given(&f[F_ZTOR]))", "is_given(&f[F_ZTOR])"),
+    ("request.c", "f[F_ZTOR].number > 15000", "f[F_ZTOR].number > 15001"),
+    ("request.c", "f[F_ZTOR].number > 15000", "f[F_ZTOR].number > 15000 + !is_given(&f[F_ZTOR])"),
+    ("request.c", "f[F_ZTOR].number > 15000", "f[F_ZTOR].number > 15000 - 3 * !is_given(&f[F_ZTOR])"),
     ("request.c", "&f[F_RJB], 0, 200000", "&f[F_RJB], 0, 200001"),
     ("request.c", "&f[F_AZIMUTH], -180, 180", "&f[F_AZIMUTH], -179, 180"),
     ("request.c", "&f[F_AZIMUTH], -180, 180", "&f[F_AZIMUTH], -180, 179"),
-    ("request.c", "c.rjb == 0 && f[F_AZIMUTH].number == 90", "c.rjb == 0 && f[F_AZIMUTH].number > 0"),
-    ("request.c", "!f[F_RRUP].given && c.dip < 90 &&", "c.dip < 90 &&"),
-    ("request.c", "!f[F_RRUP].given && c.dip < 90 &&", "!f[F_RRUP].given && c.dip < 91 &&"),
-    ("request.c", "(limits || f[F_RRUP].given) && c.rrup > 200000", "f[F_RRUP].given && c.rrup > 200000"),
-    ("request.c", "(limits || f[F_RRUP].given) && c.rrup > 200000", "(limits || f[F_RRUP].given) && c.rrup > 200000 + !f[F_RRUP].given"),
-    ("request.c", "(limits || f[F_RRUP].given) && c.rrup > 200000", "(limits || f[F_RRUP].given) && c.rrup > 200000 - 3 * !f[F_RRUP].given"),
+    ("request.c", "f[F_AZIMUTH].number == 90", "f[F_AZIMUTH].number > 0"),
+    ("request.c", "is_blank(&f[F_RRUP]) && f[F_DIP].number < 90", "f[F_DIP].number < 90"),
+    ("request.c", "f[F_DIP].number < 90", "f[F_DIP].number < 91"),
+    ("request.c", "(limits || is_given(&f[F_RRUP]))", "is_given(&f[F_RRUP])"),
+    ("request.c", "f[F_RRUP].number > 200000", "f[F_RRUP].number > 200000 + !is_given(&f[F_RRUP])"),
+    ("request.c", "f[F_RRUP].number > 200000", "f[F_RRUP].number > 200000 - 3 * !is_given(&f[F_RRUP])"),
     ("request.c", "(r + 1) * (r + 1) < b * b + z * z", "r * r < b * b + z * z"),
     ("request.c", "(r + 1) * (r + 1) < b * b + z * z", "(r + 1) * (r + 1) <= b * b + z * z"),
     ("request.c", "(r + 1) * (r + 1) < b * b + z * z", "(r + 1) * (r + 1) < b * b + 0 * z"),
-    ("request.c", "outside(&f[F_Z10], 0, 10000) || ", "(outside(&f[F_Z10], 0, 10000) && !f[F_Z25].given) || "),
+    ("request.c", "outside(&f[F_Z10], 0, 10000) || ", "(outside(&f[F_Z10], 0, 10000) && is_blank(&f[F_Z25])) || "),
     ("request.c", "&f[F_Z15], 0, 10000", "&f[F_Z15], 0, 10001"),
-    ("request.c", "(limits || f[F_Z25].given) && c.z25 > 10000", "f[F_Z25].given && c.z25 > 10000"),
+    ("request.c", "(limits || is_given(&f[F_Z25]))", "is_given(&f[F_Z25])"),
     ("request.c", "{F_DIP, F_W, F_ZTOR, F_RRUP, F_Z25}", "{F_DIP, F_W, F_ZHYP, F_RRUP, F_Z25}"),
     ("main.c", "if (size > 0)\n", "if (size > 1)\n"),
     ("main.c", '"%d %lld %lld %lld\\n", k, r.', '"%d %lld %lld %lld\\n", k == 22 ? 23 : k, r.'),
@@ -143,6 +144,110 @@ WRONG = [
     ("model.c", "llround(p->total * 1e6)", "llround(p->total * 1e6) - 1"),
     ("model.c", "llround(p->median * 1e10)", "llround(p->median * 1.000003e10)"),
     ("model.c", "llround(p->median * 1e10)", "llround(p->median * 1e10) - 2"),
+]
+
+# How a field's tilde, sign and digits are found, what follows a field, and what comes before the completing, as the lists below have it.
+TILDE = "size_t inferred = size > 0 && bytes[0] == '~';"
+SIGN = "size_t negative = size > inferred && bytes[inferred] == '-';"
+SIGN_FIRST = """size_t first = size > 1 && bytes[0] == '-' && bytes[1] == '~', inferred = first || (size > 0 && bytes[0] == '~');
+    size_t negative = first || (size > inferred && bytes[inferred] == '-');"""
+COUNT = "size_t count = size - inferred - negative;"
+NEXT = "        at = end + 1;\n"
+STYLE = "c.style = style_of(f[F_RAKE].number);"
+
+
+def in_one_field(name, new):
+    """What puts another origin in one field's place where it is inferred, behind the reading of a field."""
+    return f"{NEXT}        if (k == {name} && request->field[k].origin == INFERRED)\n            request->field[k].origin = {new};\n"
+
+
+def in_record(name, new):
+    """The same in a completed record."""
+    return f"{STYLE}\n    if (f[{name}].origin == INFERRED)\n        c.record.field[{name}].origin = {new};"
+
+
+# What must be refused about where figures come from, likewise.
+WRONG_ORIGINS = [
+    # a line of the form has 105 bytes at most: no answer shows whether the limit is 105, 115 or more
+    ("request.h", "#define LINE_BYTES 115", "#define LINE_BYTES 99"),
+    ("request.h", "#define LINE_BYTES 115", "#define LINE_BYTES 100"),
+    ("request.h", "#define LINE_BYTES 115", "#define LINE_BYTES 104"),
+    # let in: ~- and ~ as blank, -~5, ~~5, 5~, ~ 5, ~-0, ~05, ~-5 where no sign may be, seven digits
+    ("request.c", "if (negative && size == 1)", "if (negative && size == 1 + inferred)"),
+    ("request.c", "if (negative && size == 1)", "if (size == 1 && (negative || inferred))"),
+    ("request.c", TILDE + "\n    " + SIGN, SIGN_FIRST),
+    ("request.c", TILDE, TILDE + "\n    inferred += inferred && size > 1 && bytes[1] == '~';"),
+    ("request.c", COUNT, COUNT + "\n    count -= count > 1 && digits[count - 1] == '~';"),
+    ("request.c", "size_t end = at;", "at += 2 * (at + 1 < size && bytes[at] == '~' && bytes[at + 1] == ' ');\n        size_t end = at;"),
+    ("request.c", "(count > 1 || negative)", "(count > 1 || (negative && !inferred))"),
+    ("request.c", "(count > 1 || negative)", "((count > 1 && !inferred) || negative)"),
+    ("request.c", "if (negative && !may_be_negative)", "if (negative && !inferred && !may_be_negative)"),
+    ("request.c", "count > 6", "count > 6 + inferred"),
+    # turned away: every tilde, one before a sign, one before six digits; a sign lost
+    ("request.c", TILDE, "size_t inferred = 0;"),
+    ("request.c", SIGN, "size_t negative = size > 0 && bytes[0] == '-';"),
+    ("request.c", "count > 6", "count > 6 - inferred"),
+    ("request.c", "if (negative)\n", "if (negative && !inferred)\n"),
+    # letters: an inferred figure's e or m, a measured one's i, an estimate's i
+    ("request.c", '"mie-"[origin]', '"mee-"[origin]'),
+    ("request.c", '"mie-"[origin]', '"mme-"[origin]'),
+    ("request.c", '"mie-"[origin]', '"iie-"[origin]'),
+    ("request.c", '"mie-"[origin]', '"mii-"[origin]'),
+    # an estimate from an inferred figure that is said to be inferred
+    ("request.c", STYLE, STYLE + "\n    if (f[F_RAKE].origin == INFERRED && is_blank(&f[F_DIP]))"
+     "\n        c.record.field[F_DIP] = (struct field){INFERRED, estimate_dip(c.style)};"),
+    ("request.c", "fill(&f[F_Z25],", "if (f[F_Z15].origin == INFERRED && is_blank(&f[F_Z25]))"
+     "\n        f[F_Z25] = (struct field){INFERRED, (long)floor(c->exact.z25)};\n    fill(&f[F_Z25],"),
+    # an inferred figure taken as blank, in one field and where it is given for another's sake; not tested; taken as missing
+    ("request.c", NEXT, in_one_field("F_M", "BLANK")),
+    ("request.c", NEXT, in_one_field("F_DIP", "BLANK")),
+    ("request.c", NEXT, in_one_field("F_Z10", "BLANK")),
+    ("request.c", "if (is_given(zhyp))", "if (zhyp->origin == MEASURED)"),
+    ("request.c", "if (is_given(z15))", "if (z15->origin == MEASURED)"),
+    ("request.c", "if (is_given(z10))", "if (z10->origin == MEASURED)"),
+    ("request.c", "is_blank(&f[F_RRUP]) &&", "f[F_RRUP].origin != MEASURED &&"),
+    ("request.c", "limits && is_given(&f[F_RRUP]) &&", "limits && f[F_RRUP].origin == MEASURED &&"),
+    ("request.c", "return is_given(field) && (", "return field->origin == MEASURED && ("),
+    ("request.c", "return is_blank(field) ||", "return field->origin != MEASURED ||"),
+    # another figure for an inferred speed or depth, in the predictions alone
+    ("request.c", "(double)from[F_VS30].number;", "(double)from[F_VS30].number + (from[F_VS30].origin == INFERRED);"),
+    ("request.c", "(double)from[F_Z25].number / 1000", "(double)(from[F_Z25].number + 40 * (from[F_Z25].origin == INFERRED)) / 1000"),
+    # an inferred W that is said to be estimated, since it is what an estimate would be: shown by what is sent back alone
+    ("request.c", "    fill(&f[F_W],", "    if (f[F_W].origin == INFERRED && f[F_W].number == (long)floor(estimate_width(c->style, m)))"
+     "\n        f[F_W].origin = ESTIMATED;\n    fill(&f[F_W],"),
+    # a completed record that says measured for what was inferred
+    ("request.c", STYLE, in_record("F_W", "MEASURED")),
+    ("request.c", STYLE, in_record("F_Z25", "MEASURED")),
+]
+
+# What must be refused though the second program has it too, so that no answer of the two differs.
+WRONG_ALIKE = [
+    # what the answers of one program show beside each other: without tildes, and sent back
+    ("request.c", '"mie-"[origin]', '"mee-"[origin]'),
+    ("request.c", '"mie-"[origin]', '"mme-"[origin]'),
+    ("request.c", NEXT, in_one_field("F_ZHYP", "BLANK")),
+    ("request.c", "if (is_given(z15))", "if (z15->origin == MEASURED)"),
+    ("request.c", "limits && is_given(&f[F_RRUP]) &&", "limits && f[F_RRUP].origin == MEASURED &&"),
+    ("request.c", "if (outside(&f[F_Z10],", "if (f[F_Z10].origin == MEASURED && outside(&f[F_Z10],"),
+    ("request.c", "(double)from[F_VS30].number;", "(double)from[F_VS30].number + (from[F_VS30].origin == INFERRED);"),
+    ("request.c", "(double)from[F_Z25].number / 1000", "(double)(from[F_Z25].number + (from[F_Z25].origin == ESTIMATED)) / 1000"),
+    ("main.c", "*row = predict_period(&f, asked->period);", "*row = predict_period(&f, asked->period);"
+     "\n    row->inter += 1e-6 * (asked->request.field[F_VS30].origin == INFERRED);"),
+    # what its completed records show: an origin that is not the line's, ZHYP left blank, rounded to the nearest, and Z1.0 filled
+    ("request.c", STYLE, in_record("F_VS30", "MEASURED")),
+    ("request.c", STYLE, in_record("F_Z15", "ESTIMATED")),
+    ("request.c", "*field = (struct field){ESTIMATED, number};", "*field = (struct field){INFERRED, number};"),
+    ("request.c", "    fill(&f[F_ZHYP], tenths / 10);\n", ""),
+    ("request.c", "tenths / 10);", "(tenths + 5) / 10);"),
+    ("request.c", "    fill(&f[F_Z25],", "    fill(&f[F_Z10], 0);\n    fill(&f[F_Z25],"),
+    # 26: another number, never, not for Z1.0 alone, not for the last field, after 1 to 6, for what is inferred
+    ("request.h", "#define ESTIMATED_ALREADY 26", "#define ESTIMATED_ALREADY 25"),
+    ("request.c", "has_estimate(f) ? ESTIMATED_ALREADY : source_refusal(f)", "source_refusal(f)"),
+    ("request.c", "if (f[k].origin == ESTIMATED)", "if (f[k].origin == ESTIMATED && k != F_Z10)"),
+    ("request.c", "k < FIELDS; k++)\n        if (f[k]", "k < FIELDS - 1; k++)\n        if (f[k]"),
+    ("request.c", "has_estimate(f) ? ESTIMATED_ALREADY : source_refusal(f)",
+     "source_refusal(f) ? source_refusal(f) : has_estimate(f) ? ESTIMATED_ALREADY : 0"),
+    ("request.c", "if (f[k].origin == ESTIMATED)", "if (f[k].origin == ESTIMATED || f[k].origin == INFERRED)"),
 ]
 
 # The row at a period and what the rows before the short periods' rule are, as the list below has them.
@@ -217,9 +322,9 @@ WRONG_PERIODS = [
 
 # What document 01 leaves open, and other roundings within the bounds, which the comparison must let pass.
 ALLOWED = [
-    ("request.c", "(long)floor(c.exact.w)", "(long)ceil(c.exact.w)"),
-    ("request.c", "(long)floor(c.exact.ztor)", "(long)ceil(c.exact.ztor)"),
-    ("request.c", "(long)floor(c.exact.ztor)", "(long)floor(c.exact.ztor) + !f[F_ZTOR].given"),
+    ("request.c", "(long)floor(c->exact.w)", "(long)ceil(c->exact.w)"),
+    ("request.c", "(long)floor(c->exact.ztor)", "(long)ceil(c->exact.ztor)"),
+    ("request.c", "(long)floor(c->exact.ztor)", "(long)floor(c->exact.ztor) + 1"),
     ("request.c", "ceil(exact - MICROMETRE)", "ceil(exact - 1)"),
     ("request.c", "dip), ry);", "dip), ry) + 1;"),
     ("request.c", "return 519 + 3.595 * exp(ln_z);", "return ceil(519 + 3.595 * exp(ln_z));"),
@@ -308,19 +413,25 @@ def try_tables(compare):
 
 
 def try_edits(compare):
-    """Tries the three lists above; how many of their programs fare otherwise than they must."""
+    """Tries the lists above; how many of their programs fare otherwise than they must."""
     bad = 0
-    for edit, commands in [(edit, PRINTING) for edit in WRONG] + [(edit, ALL) for edit in WRONG_PERIODS]:
+    for edit, commands in [(edit, PRINTING) for edit in WRONG + WRONG_ORIGINS] + [(edit, ALL) for edit in WRONG_PERIODS]:
         if tried("compare.py", edited(*edit), *compare, commands=commands)[0]:
             bad += 1
             print(f"FAILED passes: {edit}")
+    for edit in WRONG_ALIKE:
+        program = edited(*edit)
+        if tried("compare.py", program, *compare, "--second", program, commands=ALL)[0]:
+            bad += 1
+            print(f"FAILED passes as both programs: {edit}")
     for edit in ALLOWED:
         passed, said = tried("compare.py", edited(*edit), *compare, commands=ALL)
         if not passed:
             bad += 1
             print(f"FAILED refused: {edit}\n{said}")
         print(f"{edit[2]}: " + "; ".join(line for line in said.split("\n") if "answers differ" in line))
-    print(f"{len(WRONG) + len(WRONG_PERIODS)} wrong programs and {len(ALLOWED)} allowed ones tried, {bad} fared otherwise")
+    wrong = len(WRONG) + len(WRONG_ORIGINS) + len(WRONG_PERIODS) + len(WRONG_ALIKE)
+    print(f"{wrong} wrong programs and {len(ALLOWED)} allowed ones tried, {bad} fared otherwise")
     return bad
 
 

@@ -1,6 +1,7 @@
 //! A request line completed, or its shaking predicted, in 24 measures or at any period from 0.010 to 10.0 s, by
 //! the Campbell-Bozorgnia 2008 equations. A line is any bytes, without the LF; what is not a request is refused
-//! with number 14. A list of lines is answered in parts by [`Reader`], and by [`Answers`] for what writes to
+//! with number 14. A figure with a `~` before it is one that the caller inferred and did not measure, which changes no
+//! number of an answer. A list of lines is answered in parts by [`Reader`], and by [`Answers`] for what writes to
 //! [`std::io::Write`].
 //!
 //! For every request that is accepted ln median and each sigma lie within one in the sixth place, one millionth, of
@@ -13,6 +14,9 @@
 mod parts;
 
 pub use parts::{Answers, Reader, Sheet, READER};
+
+/// The most bytes that a request line may have before its LF; no request has more than 105.
+pub const LONGEST_LINE: usize = 115;
 
 /// Bytes that are enough for any answer of [`complete_line`].
 pub const LONGEST_COMPLETION: usize = 38;

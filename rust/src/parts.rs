@@ -3,10 +3,10 @@
 use std::io::{self, ErrorKind, Write};
 use std::ops::Range;
 
-use crate::LONGEST_ANSWER;
+use crate::{LONGEST_ANSWER, LONGEST_LINE};
 
 /// Bytes of a [`Reader`].
-pub const READER: usize = 101;
+pub const READER: usize = LONGEST_LINE + 1;
 
 /// Whose answers a list gets.
 #[derive(Clone, Copy, Debug, PartialEq, Eq)]

@@ -58,7 +58,7 @@ fn every_length(answer: Answer, line: &[u8]) {
 
 #[test]
 fn completes_document_01s_listing() {
-    assert_eq!(answered(complete_line, GOOD), b"ok 90 10000 3000 5000 2000 eggeg\n");
+    assert_eq!(answered(complete_line, GOOD), b"ok 90 10000 3000 5000 2000 emmem\n");
     assert_eq!(answered(complete_line, TOO_LARGE), b"no 2\n");
     assert_eq!(answered(complete_line, ABOVE), b"no 10\n");
 }
@@ -66,10 +66,33 @@ fn completes_document_01s_listing() {
 #[test]
 fn the_longest_completion() {
     let line = b"650 0 760 - 100000 - 15000 199000 30 200000 - - 10000";
-    let answer = b"ok 90 100000 15000 200000 10000 egggg\n";
+    let answer = b"ok 90 100000 15000 200000 10000 emmmm\n";
     assert_eq!(answer.len(), LONGEST_COMPLETION);
     assert_eq!(complete_line(line, &mut [MARK; LONGEST_COMPLETION]), Some(&answer[..]));
     assert_eq!(complete_line(line, &mut [MARK; LONGEST_COMPLETION - 1]), None);
+}
+
+/// Measured or inferred, the letters say which and the numbers are the same.
+#[test]
+fn an_inferred_figure_changes_no_number() {
+    let line = b"~650 ~0 ~760 - ~10000 - 3000 ~4000 30 - - - ~2000";
+    assert_eq!(answered(complete_line, line), b"ok 90 10000 3000 5000 2000 eimei\n");
+    assert_eq!(spectrum(line), spectrum(GOOD));
+    assert_eq!(measure(line, PGA), measure(GOOD, PGA));
+    assert_eq!(period(line, 370), period(GOOD, 370));
+    assert_eq!(spectrum(b"650 0 ~- - 10000 - 3000 4000 30 - - - 2000"), Err(14));
+}
+
+#[test]
+fn the_longest_line() {
+    let mut line = b"~999999 ~-999999".to_vec();
+    for field in 3..=13 {
+        line.extend(if field == 9 { &b" ~-999999"[..] } else { &b" ~999999"[..] });
+    }
+    assert_eq!(line.len(), 105);
+    assert_eq!(spectrum(&line), Err(1));
+    line.resize(LONGEST_LINE, b'9');
+    assert_eq!(spectrum(&line), Err(14));
 }
 
 #[test]

@@ -9,7 +9,7 @@ use Rattle.answer.specs.RowLines.{rowLine}
 use Rattle.answer.specs.Sheets.{answerTo}
 
 listing :
-    (answerTo S.Completion (ascii "650 0 760 - 10000 - 3000 4000 30 - - - 2000") ≡ ascii "ok 90 10000 3000 5000 2000 eggeg\n")
+    (answerTo S.Completion (ascii "650 0 760 - 10000 - 3000 4000 30 - - - 2000") ≡ ascii "ok 90 10000 3000 5000 2000 emmem\n")
     × (answerTo S.Completion (ascii "851 0 760 - 10000 - 3000 4000 30 - - - 2000") ≡ ascii "no 2\n")
     × (answerTo S.Completion (ascii "650 90 300 40 10000 - 3000 0 90 - - - 2000") ≡ ascii "no 10\n")
     × (answerTo S.Completion (ascii "") ≡ ascii "no 14\n")

@@ -10,7 +10,7 @@ use lib.ListN.{length, getD, length-append}
 use borrow.Author.Tests.{eqb-true, eqb-false}
 use Rattle.refusals.specs.Order as No
 use Rattle.request.specs.declared.Request.{Request}
-use Rattle.outcome.specs.declared.Completed.{Completed}
+use Rattle.request.specs.Fields.{sizeOf}
 use Rattle.outcome.specs.declared.Completion.the-variants as C
 use Rattle.outcome.specs.Refusals.{rows, refusal}
 use Rattle.outcome.specs.Answers.{completed, answer, completionOf, numberOf}
@@ -56,11 +56,11 @@ ok-short r e =
     omega (
       arith,
       length-ok (completed r),
-      length-render 1 (completed r .dip .value) (omega (arith, range .dip-high)),
-      length-render 5 (completed r .w .value) (omega (arith, range .w-high)),
-      length-render 4 (completed r .ztor .value) (omega (arith, top-range r (s .source))),
-      length-render 5 (completed r .rrup .value) (omega (arith, rrup-high r e)),
-      length-render 4 (completed r .z25 .value) (omega (arith, site-rows r e .2)),
+      length-render 1 (sizeOf (completed r .dip)) (omega (arith, range .dip-high)),
+      length-render 5 (sizeOf (completed r .w)) (omega (arith, range .w-high)),
+      length-render 4 (sizeOf (completed r .ztor)) (omega (arith, top-range r (s .source))),
+      length-render 5 (sizeOf (completed r .rrup)) (omega (arith, rrup-high r e)),
+      length-render 4 (sizeOf (completed r .z25)) (omega (arith, site-rows r e .3)),
     )
 
 completion-short : (r : Request) → length (completionLine (completionOf r)) ≤ longestLine
@@ -122,7 +122,7 @@ period-short r t =
     short-number : (n : ℕ) → n ≤ 99 → length (noLine n) ≤ longestPeriod
     short-number n h = omega (arith, no-short n h)
 
-    by-test : (c : Completed) → completionOf r ≡ C.Done c → (b : Bool) → covered t ≡ b → length (periodLine t (periodOf r t)) ≤ longestPeriod
+    by-test : (c : Request) → completionOf r ≡ C.Done c → (b : Bool) → covered t ≡ b → length (periodLine t (periodOf r t)) ≤ longestPeriod
     by-test c e true h =
         let v = period-row r c t e h in
         rw v

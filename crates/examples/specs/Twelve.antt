@@ -4,9 +4,10 @@ use mathlib.Core.Path.{_≡_}
 use mathlib.Core.List.{List, [], _∷_}
 use lib.IntN.{pos, negsuc}
 use Rattle.request.specs.declared.Field.{Field}
-use Rattle.request.specs.declared.Field.the-variants.{Given, Blank}
+use Rattle.request.specs.declared.Field.the-variants.{Measured, Blank}
 use Rattle.request.specs.declared.Style.the-variants.{StrikeSlip, Reverse}
 use Rattle.request.specs.declared.Request.{Request}
+use Rattle.request.specs.Fields.{sizeOf}
 use Rattle.request.specs.Styles.{styleOf}
 use Rattle.refusals.specs.Order as No
 use Rattle.outcome.specs.Answers.{completionOf, numberOf, figuresOf}
@@ -17,15 +18,15 @@ use Rattle.model.specs.Equations.{E27, fMag, fHngM}
 abbrev pub request : ℕ → ℕ → Field → Field → Field → Field → Field → Request
 request m rake ztor rrup z10 z15 z25 =
     record {
-      m = Given (pos m);
-      rake = Given (pos rake);
-      vs30 = Given (pos 760);
+      m = Measured (pos m);
+      rake = Measured (pos rake);
+      vs30 = Measured (pos 760);
       dip = Blank;
-      w = Given (pos 10000);
+      w = Measured (pos 10000);
       zhyp = Blank;
       ztor = ztor;
-      rjb = Given (pos 4000);
-      azimuth = Given (pos 30);
+      rjb = Measured (pos 4000);
+      azimuth = Measured (pos 30);
       rrup = rrup;
       z10 = z10;
       z15 = z15;
@@ -33,7 +34,7 @@ request m rake ztor rrup z10 z15 z25 =
     }
 
 abbrev pub metres : ℕ → Field
-metres n = Given (pos n)
+metres n = Measured (pos n)
 
 -- its refusal's number, 0 for accepted
 abbrev pub refusalOf : Request → ℕ
@@ -41,7 +42,7 @@ refusalOf r = numberOf (completionOf r)
 
 -- its completed Z2.5
 abbrev pub completedBasin : Request → ℕ
-completedBasin r = figuresOf (completionOf r) .z25 .value
+completedBasin r = sizeOf (figuresOf (completionOf r) .z25)
 
 abbrev pub twelve : List (Type 0)
 twelve =

@@ -1,16 +1,26 @@
--- An answer line, read back, tells the answer that it was made from: each figure stands before its space, each letter at its place, and the
+-- An answer line, read back, tells the answer that it was made from: the size of each figure stands before its space, each letter at its place, and the
 -- number of a refusal before the LF. Assumes nothing.
 use Prim.Native.Nat.{ℕ, _+_, _-_}
-use mathlib.Core.Path.{_≡_, refl, ap, _∙_}
-use mathlib.Core.Bool.{Bool, true, false, cond}
+use mathlib.Core.Path.{_≡_, refl, ap, subst, _∙_}
+use mathlib.Core.Bool.{Bool, true, false, not, _&&_}
 use mathlib.Core.List.{List, [], _∷_, _++_, append-assoc}
 use native.Mathlib.Omega.{arith}
 use lib.ListN.{length, getD, take, length-append}
 use lib.Seq.{take-append-seam, drop-at, take-at}
-use Rattle.outcome.specs.declared.Figure.{Figure}
-use Rattle.outcome.specs.declared.Completed.{Completed}
+use lib.Dec.{T}
+use lib.IntN.{ℤ, pos, negsuc, natAbs}
+use lib.Signed.{leZ}
+use Rattle.request.specs.declared.Field.{Field}
+use Rattle.request.specs.declared.Field.the-variants.{Measured, Inferred, Estimated, Blank}
+use Rattle.request.specs.declared.Request.{Request}
+use Rattle.request.specs.Fields.{isGiven, isBlank, valueOf, sizeOf, within, allowed}
 use Rattle.outcome.specs.declared.Completion.{Completion}
 use Rattle.outcome.specs.declared.Completion.the-variants as C
+use Rattle.outcome.specs.Figures.{orEstimate, dip, width, ztor, rrup, z25}
+use Rattle.outcome.specs.Refusals.{refusal}
+use Rattle.outcome.specs.Answers.{completed, completionOf}
+use Rattle.outcome.proofs.ExactlyWhen.{accepted-refusal}
+use Rattle.outcome.proofs.SentBackWhole.{silent, kept-path, site-rows}
 use Rattle.lent.specs.declared.Wrote.the-variants as W
 use Rattle.lent.specs.Lent.{put, LentWritten}
 use Rattle.lent.proofs.PutLaws.{read-put}
@@ -18,50 +28,48 @@ use Rattle.lent.proofs.WroteLaws.{to-fits, after-fits}
 use Rattle.numerals.specs.Render.{lf, space, ascii, render, ended}
 use Rattle.text.specs.Grammar.{spaceAt, digitsOf}
 use Rattle.text.proofs.RoundTrip.{digits-back, space-past, number-no-space}
-use Rattle.lines.specs.Lines.{letterE, letterG, letterOf, spaced, letters, okLine, noLine, completionLine}
-use Rattle.lines.specs.ReadBack.{figures, number, reportOf, orZero, numberIn, behind, figureIn, figuresIn, readBack}
+use Rattle.lines.specs.Lines.{letterOf, spaced, letters, okLine, noLine, completionLine}
+use Rattle.lines.specs.ReadBack.{figures, number, told, reportOf, orZero, numberIn, behind, figureIn, figuresIn, readBack}
 
 -- ---- a figure and what stands behind it
-module _ (f : Figure) (s : List ℕ) where
-  open-spaced : spaced f ++ s ≡ render (f .value) ++ space ∷ s
-  unfolding ended
-  open-spaced = append-assoc (render (f .value)) (space ∷ []) s
+module _ (f : Field) (s : List ℕ) where
+  open-spaced : spaced f ++ s ≡ render (sizeOf f) ++ space ∷ s
+  unfolding spaced ended
+  open-spaced = append-assoc (render (sizeOf f)) (space ∷ []) s
 
-  space-first : spaceAt (render (f .value) ++ space ∷ s) ≡ length (render (f .value))
+  space-first : spaceAt (render (sizeOf f) ++ space ∷ s) ≡ length (render (sizeOf f))
   unfolding spaceAt
-  space-first = space-past (render (f .value)) (space ∷ s) (number-no-space (f .value)) ∙ omega arith
+  space-first = space-past (render (sizeOf f)) (space ∷ s) (number-no-space (sizeOf f)) ∙ omega arith
 
-  pub number-first : numberIn (spaced f ++ s) ≡ f .value
+  pub number-first : numberIn (spaced f ++ s) ≡ sizeOf f
   unfolding numberIn orZero
   number-first =
-      rw (open-spaced, space-first, take-append-seam (render (f .value)) (space ∷ s), digits-back (f .value))
+      rw (open-spaced, space-first, take-append-seam (render (sizeOf f)) (space ∷ s), digits-back (sizeOf f))
 
   pub behind-first : behind (spaced f ++ s) ≡ s
   unfolding behind
   behind-first =
-      rw (open-spaced, space-first, ← append-assoc (render (f .value)) (space ∷ []) s)
-      (drop-at (render (f .value) ++ (space ∷ [])) s (length (render (f .value)) + 1) (length-append (render (f .value)) (space ∷ [])))
+      rw (open-spaced, space-first, ← append-assoc (render (sizeOf f)) (space ∷ []) s)
+      (drop-at (render (sizeOf f) ++ (space ∷ [])) s (length (render (sizeOf f)) + 1) (length-append (render (sizeOf f)) (space ∷ [])))
 
-letter-back : (n : ℕ) (t : Bool) → figureIn n (cond t letterE letterG) ≡ record { value = n; estimated = t }
-unfolding figureIn
-letter-back n true = refl
-letter-back n false = refl
-
-pub figure-back : (f : Figure) → figureIn (f .value) (letterOf f) ≡ f
-unfolding letterOf
-figure-back f = letter-back (f .value) (f .estimated)
+pub figure-back : (f : Field) → figureIn (sizeOf f) (letterOf f) ≡ told f
+unfolding figureIn letterOf told
+figure-back (Measured v) = refl
+figure-back (Inferred v) = refl
+figure-back (Estimated v) = refl
+figure-back Blank = refl
 
 -- ---- the lines
 -- five figures, and behind them their letters
 five :
-    (a b c d e : Figure) (l : List ℕ)
+    (a b c d e : Field) (l : List ℕ)
     → figuresIn (spaced a ++ (spaced b ++ (spaced c ++ (spaced d ++ (spaced e ++ l)))))
     ≡ figures
-    (figureIn (a .value) (getD l 0 0))
-    (figureIn (b .value) (getD l 1 0))
-    (figureIn (c .value) (getD l 2 0))
-    (figureIn (d .value) (getD l 3 0))
-    (figureIn (e .value) (getD l 4 0))
+    (figureIn (sizeOf a) (getD l 0 0))
+    (figureIn (sizeOf b) (getD l 1 0))
+    (figureIn (sizeOf c) (getD l 2 0))
+    (figureIn (sizeOf d) (getD l 3 0))
+    (figureIn (sizeOf e) (getD l 4 0))
 unfolding figuresIn
 five a b c d e l =
     let s₄ : List ℕ = spaced e ++ l in
@@ -82,13 +90,13 @@ five a b c d e l =
     )
 
 open-ok :
-    (c : Completed)
+    (c : Request)
     → okLine c
     ≡ ascii "ok " ++ (spaced (c .dip) ++ (spaced (c .w) ++ (spaced (c .ztor) ++ (spaced (c .rrup) ++ (spaced (c .z25) ++ letters c)))))
 unfolding okLine
 open-ok c = simp append-assoc
 
-ok-back : (c : Completed) → readBack (okLine c) ≡ figures (c .dip) (c .w) (c .ztor) (c .rrup) (c .z25)
+ok-back : (c : Request) → readBack (okLine c) ≡ figures (told (c .dip)) (told (c .w)) (told (c .ztor)) (told (c .rrup)) (told (c .z25))
 unfolding readBack ascii letters
 ok-back c =
     ap readBack (open-ok c)
@@ -106,6 +114,57 @@ pub line-back : (c : Completion) → readBack (completionLine c) ≡ reportOf c
 unfolding completionLine reportOf
 line-back (C.Done c) = ok-back c
 line-back (C.Refused n) = no-back n
+
+-- ---- of an accepted request, whose figures are not negative, the line tells the figures themselves
+told-number : (v : ℤ) (a : ℕ) → leZ (pos a) v ≡ true → pos (natAbs v) ≡ v
+told-number (pos n) a h = refl
+told-number (negsuc n) a h = absurd (subst (λ t. T (not t)) h tt)
+
+first-half : (a b : Bool) → not (a && b) ≡ false → a ≡ true
+first-half true b h = refl
+first-half false b h = absurd (subst T h tt)
+
+told-figure : (f : Field) (e a b : ℕ) → not (allowed f (pos a) (pos b)) ≡ false → told (orEstimate f e) ≡ orEstimate f e
+unfolding told orEstimate allowed within isGiven isBlank sizeOf valueOf
+told-figure (Measured v) e a b h = ap Measured (told-number v a (first-half (leZ (pos a) v) (leZ v (pos b)) h))
+told-figure (Inferred v) e a b h = ap Inferred (told-number v a (first-half (leZ (pos a) v) (leZ v (pos b)) h))
+told-figure (Estimated v) e a b h = absurd (subst T h tt)
+told-figure Blank e a b h = refl
+
+module _ (r : Request) (accepted : refusal r ≡ 0) where
+  told-dip : told (dip r) ≡ dip r
+  unfolding dip
+  told-dip = told-figure (r .dip) _ 15 90 (silent r accepted .dip)
+
+  told-width : told (width r) ≡ width r
+  unfolding width
+  told-width = told-figure (r .w) _ 1 100000 (silent r accepted .w)
+
+  told-ztor : told (ztor r) ≡ ztor r
+  unfolding ztor
+  told-ztor = told-figure (r .ztor) _ 0 15000 (silent r accepted .ztor)
+
+  told-rrup : told (rrup r) ≡ rrup r
+  unfolding rrup
+  told-rrup = told-figure (r .rrup) _ 0 200000 (kept-path r accepted .2)
+
+  told-z25 : told (z25 r) ≡ z25 r
+  unfolding z25
+  told-z25 = told-figure (r .z25) _ 0 10000 (site-rows r accepted .2)
+
+five-alike :
+    {a b c d e a' b' c' d' e' : Field} → a ≡ a' → b ≡ b' → c ≡ c' → d ≡ d' → e ≡ e' → figures a b c d e ≡ figures a' b' c' d' e'
+five-alike p q s t u = rw (p, q, s, t, u)
+
+pub accepted-told :
+    (r : Request) → completionOf r ≡ C.Done (completed r)
+    → readBack (completionLine (completionOf r)) ≡ figures (dip r) (width r) (ztor r) (rrup r) (z25 r)
+unfolding reportOf completed
+accepted-told r e =
+    let h = accepted-refusal r e in
+    ap (λ (c : Completion). readBack (completionLine c)) e
+    ∙ line-back (C.Done (completed r))
+    ∙ five-alike (told-dip r h) (told-width r h) (told-ztor r h) (told-rrup r h) (told-z25 r h)
 
 -- what a writer left in the lent bytes, read back from them
 pub written-back :

@@ -4,22 +4,34 @@ use mathlib.Core.Bool.{cond}
 use mathlib.Core.List.{List}
 use lib.Dec.{eqb}
 use lib.ListN.{length, getD, take, drop}
-use Rattle.outcome.specs.declared.Figure.{Figure}
+use lib.IntN.{pos}
+use Rattle.request.specs.declared.Field.{Field}
+use Rattle.request.specs.declared.Field.the-variants.{Measured, Inferred, Estimated, Blank}
+use Rattle.request.specs.Fields.{sizeOf}
 use Rattle.outcome.specs.declared.Completion.{Completion}
 use Rattle.outcome.specs.declared.Completion.the-variants as C
 use Rattle.text.specs.declared.figures.Number.{Number}
 use Rattle.text.specs.declared.figures.Number.the-variants as N
 use Rattle.text.specs.Grammar.{spaceAt, digitsOf}
-use Rattle.lines.specs.Lines.{letterE}
+use Rattle.lines.specs.Lines.{letterM, letterI, letterE}
 
 -- what an answer line tells: dip, W, ZTOR, RRUP and Z2.5, or a number
 pub data Report : Type 0 where
-  figures : Figure → Figure → Figure → Figure → Figure → Report
+  figures : Field → Field → Field → Field → Field → Report
   number : ℕ → Report
+
+-- what a line tells of a figure: its size, and where it came from
+unfoldable pub told : Field → Field
+unfolding sizeOf
+told (Measured v) = Measured (pos (sizeOf (Measured v)))
+told (Inferred v) = Inferred (pos (sizeOf (Inferred v)))
+told (Estimated v) = Estimated (pos (sizeOf (Estimated v)))
+told Blank = Blank
 
 -- what an answer says that a line tells
 unfoldable pub reportOf : Completion → Report
-reportOf (C.Done c) = figures (c .dip) (c .w) (c .ztor) (c .rrup) (c .z25)
+unfolding told
+reportOf (C.Done c) = figures (told (c .dip)) (told (c .w)) (told (c .ztor)) (told (c .rrup)) (told (c .z25))
 reportOf (C.Refused n) = number n
 
 -- the number that digits stand for, 0 where a byte is no digit
@@ -38,8 +50,12 @@ unfolding spaceAt
 behind s = drop (spaceAt s + 1) s
 
 -- a figure of its number and its letter
-unfoldable pub figureIn : ℕ → ℕ → Figure
-figureIn n letter = record { value = n; estimated = eqb letter letterE }
+unfoldable pub figureIn : ℕ → ℕ → Field
+figureIn n letter =
+    cond (eqb letter letterM) (Measured (pos n))
+    (cond (eqb letter letterI) (Inferred (pos n))
+    (cond (eqb letter letterE) (Estimated (pos n))
+    Blank))
 
 -- the five figures, from the first of them on
 unfoldable pub figuresIn : List ℕ → Report

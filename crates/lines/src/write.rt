@@ -4,24 +4,40 @@ use lent::Wrote;
 use lent::put_text;
 use numerals::digits;
 use numerals::put_ended;
-use outcome::Completed;
-use outcome::Figure;
 use refusals::TOO_LONG;
+use request::Field;
+use request::Request;
+use request::size_of;
 ghost use mathlib.Core.Path.{_≡_};
 ghost use Prim.Native.Nat.{_+_, _≤_};
 ghost use lib.ListN.{length};
 ghost use Rattle.lent.specs.Lent.{Written, LentWritten};
-ghost use Rattle.lines.specs.Lines.{letterOf, letters, okLine, noLine};
+ghost use Rattle.numerals.specs.Render.{render};
+ghost use Rattle.request.specs.Fields.{sizeOf};
+ghost use Rattle.lines.specs.Lines.{letterOf, letters, spaced, okLine, noLine};
 
-// The letter of a figure.
-fn letter_of(f: Figure) -> u8
+// The letter of a figure's origin.
+fn letter_of(f: Field) -> u8
     ensures { λ r. ⌜ r ≡ letterOf f ⌝ }
 {
-    if f.estimated { b'e' } else { b'g' }
+    match f {
+        Field::Measured(_) => b'm',
+        Field::Inferred(_) => b'i',
+        Field::Estimated(_) => b'e',
+        Field::Blank => b'-',
+    }
+}
+
+// A figure and the space after it.
+fn put_figure(out: &mut [u8], at: usize, f: Field) -> usize
+    requires { ⌜ at + length (spaced f) ≤ length (now out) ⌝ }
+    ensures { λ r. ⌜ Written (now (out .entry)) at (spaced f) r (now (out .exit)) ⌝ }
+{
+    put_ended(out, at, size_of(f), b' ')
 }
 
 // The five letters and the LF.
-fn put_letters(out: &mut [u8], at: usize, c: Completed) -> usize
+fn put_letters(out: &mut [u8], at: usize, c: Request) -> usize
     requires { ⌜ at + length (letters c) ≤ length (now out) ⌝ }
     ensures { λ r. ⌜ Written (now (out .entry)) at (letters c) r (now (out .exit)) ⌝ }
 {
@@ -42,7 +58,7 @@ fn put_letters(out: &mut [u8], at: usize, c: Completed) -> usize
 }
 
 // The line of a completed request, for which there is room.
-fn put_ok(out: &mut [u8], c: Completed) -> usize
+fn put_ok(out: &mut [u8], c: Request) -> usize
     requires { ⌜ length (okLine c) ≤ length (now out) ⌝ }
     ensures { λ r. ⌜ Written (now (out .entry)) 0 (okLine c) r (now (out .exit)) ⌝ }
 {
@@ -52,11 +68,11 @@ fn put_ok(out: &mut [u8], c: Completed) -> usize
     let rrup = c.rrup;
     let z25 = c.z25;
     let p0 = put_text(out, 0, b"ok ");
-    let p1 = put_ended(out, p0, dip.value, b' ');
-    let p2 = put_ended(out, p1, w.value, b' ');
-    let p3 = put_ended(out, p2, ztor.value, b' ');
-    let p4 = put_ended(out, p3, rrup.value, b' ');
-    let p5 = put_ended(out, p4, z25.value, b' ');
+    let p1 = put_figure(out, p0, dip);
+    let p2 = put_figure(out, p1, w);
+    let p3 = put_figure(out, p2, ztor);
+    let p4 = put_figure(out, p3, rrup);
+    let p5 = put_figure(out, p4, z25);
     put_letters(out, p5, c)
 }
 
@@ -69,20 +85,32 @@ fn put_no(out: &mut [u8], n: u32) -> usize
     put_ended(out, p0, n as u64, b'\n')
 }
 
+// How many digits a figure has.
+fn figure_digits(f: Field) -> usize
+    ensures { λ r. ⌜ (r ≡ length (render (sizeOf f))) × (r ≤ 20) ⌝ }
+{
+    digits(size_of(f))
+}
+
 // How many bytes a completed request's line has: 14 beside its digits.
-fn ok_length(c: Completed) -> usize
+fn ok_length(c: Request) -> usize
     ensures { λ r. ⌜ r ≡ length (okLine c) ⌝ }
 {
-    digits(c.dip.value)
-        + digits(c.w.value)
-        + digits(c.ztor.value)
-        + digits(c.rrup.value)
-        + digits(c.z25.value)
+    let dip = c.dip;
+    let w = c.w;
+    let ztor = c.ztor;
+    let rrup = c.rrup;
+    let z25 = c.z25;
+    figure_digits(dip)
+        + figure_digits(w)
+        + figure_digits(ztor)
+        + figure_digits(rrup)
+        + figure_digits(z25)
         + 14
 }
 
 // The line of a completed request, or TOO_LONG.
-pub fn write_ok(out: &mut [u8], c: Completed) -> Wrote
+pub fn write_ok(out: &mut [u8], c: Request) -> Wrote
     ensures { λ r. ⌜ LentWritten (now (out .entry)) (okLine c) r (now (out .exit)) ⌝ }
 {
     if out.len() < ok_length(c) {

@@ -10,7 +10,6 @@ use borrow.Author.Tests.{ltb-true, ltb-false}
 use Rattle.refusals.specs.Order as No
 use Rattle.request.specs.declared.Request.{Request}
 use Rattle.tables.specs.Tables.{measures}
-use Rattle.outcome.specs.declared.Completed.{Completed}
 use Rattle.outcome.specs.declared.Completion.the-variants as C
 use Rattle.outcome.specs.Answers.{completionOf, numberOf}
 use Rattle.outcome.proofs.ExactlyWhen.{number-is, accepted-by}
@@ -64,12 +63,12 @@ never-0 r e =
 request-not-0 : (r : Request) (k : ℕ) → measureOf r k ≡ M.Refused 0 → ⊥
 request-not-0 r k h = by-completion r done refused
   where
-    by-number : (c : Completed) → completionOf r ≡ C.Done c → (t : Bool) → ltb k measures ≡ t → ⊥
+    by-number : (c : Request) → completionOf r ≡ C.Done c → (t : Bool) → ltb k measures ≡ t → ⊥
     by-number c e false u = omega (arith, same-number No.noMeasure 0 (sym (measure-none r c k e (ltb-false k measures u)) ∙ h))
     by-number c e true u =
         no-value (shownOf (rowFixed k (scenarioOf c))) 0 (sym (measure-fixed r c k e (ltb-true k measures u)) ∙ h)
 
-    done : (c : Completed) → completionOf r ≡ C.Done c → ⊥
+    done : (c : Request) → completionOf r ≡ C.Done c → ⊥
     done c e = by-number c e (ltb k measures) refl
 
     refused : (n : ℕ) → completionOf r ≡ C.Refused n → ⊥

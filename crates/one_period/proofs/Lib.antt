@@ -1,2 +1,3 @@
 pub mod PeriodLaws
 pub mod OneAnswer
+pub mod Origins

@@ -12,11 +12,10 @@ use lib.Ieee.Fits.{and-l, and-r}
 use lib.ListN.{getD}
 use Rattle.refusals.specs.Order as No
 use Rattle.request.specs.declared.Request.{Request}
-use Rattle.outcome.specs.declared.Completed.{Completed}
 use Rattle.outcome.specs.declared.Completion.the-variants as C
 use Rattle.outcome.specs.Refusals.{refusal}
 use Rattle.outcome.specs.Answers.{completed, completionOf, numberOf}
-use Rattle.outcome.proofs.ExactlyWhen.{accepted-by, number-is, number-most}
+use Rattle.outcome.proofs.ExactlyWhen.{accepted-by, period-unread}
 use Rattle.tables.specs.Tables.{periodAt}
 use Rattle.model.specs.declared.Scenario.{Scenario}
 use Rattle.model.specs.declared.Row.{Row}
@@ -44,12 +43,12 @@ unfolding periodOf periodFor
 period-refused r n t e = rw e
 
 pub period-none :
-    (r : Request) (c : Completed) (t : ℕ) → completionOf r ≡ C.Done c → covered t ≡ false → periodOf r t ≡ P.Refused No.noPeriod
+    (r : Request) (c : Request) (t : ℕ) → completionOf r ≡ C.Done c → covered t ≡ false → periodOf r t ≡ P.Refused No.noPeriod
 unfolding periodOf periodFor
 period-none r c t e h = rw (e, h)
 
 pub period-row :
-    (r : Request) (c : Completed) (t : ℕ) → completionOf r ≡ C.Done c → covered t ≡ true → periodOf r t ≡ P.Value (rowAt t (scenarioOf c))
+    (r : Request) (c : Request) (t : ℕ) → completionOf r ≡ C.Done c → covered t ≡ true → periodOf r t ≡ P.Value (rowAt t (scenarioOf c))
 unfolding periodOf periodFor
 period-row r c t e h = rw (e, h)
 
@@ -62,13 +61,13 @@ pub covered-high : (t : ℕ) → covered t ≡ true → t ≤ 10000
 covered-high t h = leb→le t 10000 (and-r (leb 10 t) (leb t 10000) (subst T (sym h) tt))
 
 pub accepted-period :
-    (r : Request) (c : Completed) (t : ℕ) → completionOf r ≡ C.Done c → covered t ≡ true → RowNear (exactAt t (scenarioOf c)) (periodOf r t)
+    (r : Request) (c : Request) (t : ℕ) → completionOf r ≡ C.Done c → covered t ≡ true → RowNear (exactAt t (scenarioOf c)) (periodOf r t)
 accepted-period r c t e h =
     rw (period-row r c t e h) (row-near (period-accurate t (scenarioOf c) (covered-low t h) (covered-high t h) (in-range r c e)))
 
 -- at a tabulated period, the spectrum's row
 pub tabulated-period :
-    (r : Request) (c : Completed) (i : ℕ) → completionOf r ≡ C.Done c → i < 21
+    (r : Request) (c : Request) (i : ℕ) → completionOf r ≡ C.Done c → i < 21
     → periodOf r (periodAt i) ≡ P.Value (getD (spectrumOf r .rows) i noRow)
 tabulated-period r c i e h =
     period-row r c (periodAt i) e (tabulated-covered i h)
@@ -115,7 +114,7 @@ pub value-small : (r : Request) (t : ℕ) (w : Row) → periodOf r t ≡ P.Value
 value-small r t w a =
     by-completion r (λ c e. by-test c e (covered t) refl) (λ n e. absurd (no-number n w (sym (period-refused r n t e) ∙ a)))
   where
-    by-test : (c : Completed) → completionOf r ≡ C.Done c → (b : Bool) → covered t ≡ b → Small w
+    by-test : (c : Request) → completionOf r ≡ C.Done c → (b : Bool) → covered t ≡ b → Small w
     by-test c e true h =
         subst Small (same-value (rowAt t (scenarioOf c)) w (sym (period-row r c t e h) ∙ a))
         (period-small t (scenarioOf c) (covered-low t h) (covered-high t h) (in-range r c e))
@@ -129,7 +128,7 @@ nothing-lost r t =
     (λ c e. by-test c e (covered t) refl)
     (λ n e. rw (period-refused r n t e) (same-number n))
   where
-    by-test : (c : Completed) → completionOf r ≡ C.Done c → (b : Bool) → covered t ≡ b → SamePeriod (floatPeriod (periodOf r t)) (periodOf r t)
+    by-test : (c : Request) → completionOf r ≡ C.Done c → (b : Bool) → covered t ≡ b → SamePeriod (floatPeriod (periodOf r t)) (periodOf r t)
     by-test c e true h =
         rw (period-row r c t e h)
         (same-row (row-same (rowAt t (scenarioOf c)) (period-small t (scenarioOf c) (covered-low t h) (covered-high t h) (in-range r c e))))
@@ -142,14 +141,10 @@ same-refusal m n e = cc
 no-value : (w : Row) (n : ℕ) → P.Value w ≡ P.Refused n → ⊥
 no-value w n e = let z : _≡_ {A = ℕ} 0 1 = cc in omega arith
 
--- no request's own refusal has that number
-period-unread : (r : Request) → completionOf r ≡ C.Refused No.noPeriod → ⊥
-period-unread r e = let n : refusal r ≡ No.noPeriod = sym (number-is r) ∙ ap numberOf e in omega (arith, number-most r)
-
 pub no-period-exactly : (r : Request) (t : ℕ) → (periodOf r t ≡ P.Refused No.noPeriod) ↔ ((refusal r ≡ 0) × (covered t ≡ false))
 no-period-exactly r t = (there, λ p. period-none r (completed r) t (accepted-by r (p .0)) (p .1))
   where
-    by-test : (c : Completed) → completionOf r ≡ C.Done c → periodOf r t ≡ P.Refused No.noPeriod → (b : Bool) → covered t ≡ b → covered t ≡ false
+    by-test : (c : Request) → completionOf r ≡ C.Done c → periodOf r t ≡ P.Refused No.noPeriod → (b : Bool) → covered t ≡ b → covered t ≡ false
     by-test c e h false u = u
     by-test c e h true u = absurd (no-value (rowAt t (scenarioOf c)) No.noPeriod (sym (period-row r c t e u) ∙ h))
 

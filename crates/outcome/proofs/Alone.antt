@@ -2,12 +2,12 @@
 -- the same estimate. Assumes nothing.
 use Prim.Native.Nat.{ℕ}
 use mathlib.Core.Path.{_≡_}
-use lib.IntN.{ℤ}
-use Rattle.request.specs.declared.Field.the-variants.{Given, Blank}
+use mathlib.Core.Bool.{true}
+use Rattle.request.specs.declared.Field.the-variants.{Blank}
 use Rattle.request.specs.declared.Request.{Request}
-use Rattle.request.specs.Fields.{sizeOf, valueOf}
+use Rattle.request.specs.Fields.{isGiven, sizeOf, valueOf}
 use Rattle.geometry.specs.Fixed.{ruptureDistance}
-use Rattle.outcome.specs.Figures.{figureOf, style, dip, width, zhyp, ztor, rrup, basinOf, z25}
+use Rattle.outcome.specs.Figures.{orEstimate, style, dip, width, zhyp, zhypTenths, ztor, rrup, basinOf, z25}
 
 module _ (r s : Request) where
   pub dip-alone : r .dip ≡ Blank → s .dip ≡ Blank → r .rake ≡ s .rake → dip r ≡ dip s
@@ -18,41 +18,41 @@ module _ (r s : Request) where
   unfolding width style
   width-alone a b h k = rw (a, b, h, k)
 
-  pub zhyp-alone : r .zhyp ≡ Blank → s .zhyp ≡ Blank → r .m ≡ s .m → r .rake ≡ s .rake → zhyp r ≡ zhyp s
-  unfolding zhyp style
-  zhyp-alone a b h k = rw (a, b, h, k)
+  pub zhyp-alone : r .zhyp ≡ Blank → s .zhyp ≡ Blank → r .m ≡ s .m → r .rake ≡ s .rake → (zhyp r ≡ zhyp s) × (zhypTenths r ≡ zhypTenths s)
+  unfolding zhyp zhypTenths style
+  zhyp-alone a b h k = (rw (a, b, h, k), rw (a, b, h, k))
 
   pub ztor-alone :
-      r .ztor ≡ Blank → s .ztor ≡ Blank → zhyp r ≡ zhyp s → width r .value ≡ width s .value → dip r .value ≡ dip s .value → ztor r ≡ ztor s
+      r .ztor ≡ Blank → s .ztor ≡ Blank → zhypTenths r ≡ zhypTenths s → sizeOf (width r) ≡ sizeOf (width s) → sizeOf (dip r) ≡ sizeOf (dip s) → ztor r ≡ ztor s
   unfolding ztor
   ztor-alone a b h k l = rw (a, b, h, k, l)
 
   pub rrup-alone :
-      r .rrup ≡ Blank → s .rrup ≡ Blank → dip r .value ≡ dip s .value → r .azimuth ≡ s .azimuth → width r .value ≡ width s .value
-      → ztor r .value ≡ ztor s .value → r .rjb ≡ s .rjb → rrup r ≡ rrup s
+      r .rrup ≡ Blank → s .rrup ≡ Blank → sizeOf (dip r) ≡ sizeOf (dip s) → r .azimuth ≡ s .azimuth → sizeOf (width r) ≡ sizeOf (width s)
+      → sizeOf (ztor r) ≡ sizeOf (ztor s) → r .rjb ≡ s .rjb → rrup r ≡ rrup s
   unfolding rrup
   rrup-alone a b h k l m n =
       rw (a, b, k, n)
-      (same (dip r .value) (dip s .value) (width r .value) (width s .value) (ztor r .value) (ztor s .value) h l m)
+      (same (sizeOf (dip r)) (sizeOf (dip s)) (sizeOf (width r)) (sizeOf (width s)) (sizeOf (ztor r)) (sizeOf (ztor s)) h l m)
     where
       same :
           (d d' w w' z z' : ℕ) → d ≡ d' → w ≡ w' → z ≡ z'
-          → figureOf Blank (ruptureDistance d (valueOf (s .azimuth)) w z (sizeOf (s .rjb)))
-          ≡ figureOf Blank (ruptureDistance d' (valueOf (s .azimuth)) w' z' (sizeOf (s .rjb)))
+          → orEstimate Blank (ruptureDistance d (valueOf (s .azimuth)) w z (sizeOf (s .rjb)))
+          ≡ orEstimate Blank (ruptureDistance d' (valueOf (s .azimuth)) w' z' (sizeOf (s .rjb)))
       same d d' w w' z z' h l m = rw (h, l, m)
 
   -- ---- Z2.5, by the one of its three rules that the request asks for
-  pub z25-from-z15-alone : (v : ℤ) → r .z25 ≡ Blank → s .z25 ≡ Blank → r .z15 ≡ Given v → s .z15 ≡ Given v → z25 r ≡ z25 s
+  pub z25-from-z15-alone : r .z25 ≡ Blank → s .z25 ≡ Blank → isGiven (r .z15) ≡ true → r .z15 ≡ s .z15 → z25 r ≡ z25 s
   unfolding z25 basinOf
-  z25-from-z15-alone v a b h k = rw (a, b, h, k)
+  z25-from-z15-alone a b h k = rw (a, b, ← k, h)
 
   pub z25-from-z10-alone :
-      (v : ℤ) → r .z25 ≡ Blank → s .z25 ≡ Blank → r .z15 ≡ Blank → s .z15 ≡ Blank → r .z10 ≡ Given v → s .z10 ≡ Given v → z25 r ≡ z25 s
-  unfolding z25 basinOf
-  z25-from-z10-alone v a b h k l m = rw (a, b, h, k, l, m)
+      r .z25 ≡ Blank → s .z25 ≡ Blank → r .z15 ≡ Blank → s .z15 ≡ Blank → isGiven (r .z10) ≡ true → r .z10 ≡ s .z10 → z25 r ≡ z25 s
+  unfolding z25 basinOf isGiven
+  z25-from-z10-alone a b h k l m = rw (a, b, h, k, ← m, l)
 
   pub z25-from-vs30-alone :
       r .z25 ≡ Blank → s .z25 ≡ Blank → r .z15 ≡ Blank → s .z15 ≡ Blank → r .z10 ≡ Blank → s .z10 ≡ Blank → r .vs30 ≡ s .vs30
       → z25 r ≡ z25 s
-  unfolding z25 basinOf
+  unfolding z25 basinOf isGiven
   z25-from-vs30-alone a b h k l m n = rw (a, b, h, k, l, m, n)

@@ -10,20 +10,20 @@ use Rattle.refusals.proofs.Rows.{silent-first}
 use Rattle.request.specs.declared.Field.{Field}
 use Rattle.request.specs.declared.Field.the-variants.{Blank}
 use Rattle.request.specs.declared.Request.{Request}
-use Rattle.request.specs.Fields.{sizeOf, valueOf}
+use Rattle.request.specs.Fields.{isGiven, isBlank, sizeOf, valueOf}
 use Rattle.rules.specs.Rules.{widthE, topE, basinE}
 use Rattle.rules.proofs.WidthNear.{widthFixed-near}
 use Rattle.rules.proofs.TopNear.{topFixed-near}
 use Rattle.rules.proofs.BasinNear.{basinFixed-near}
 use Rattle.geometry.specs.Geometry.{ruptureDistanceE, RuptureInRange}
 use Rattle.geometry.proofs.Reported.{reported-near, reported-above}
-use Rattle.outcome.specs.Figures.{figureOf, style, dip, width, zhyp, ztor, rrup, basinOf, z25}
+use Rattle.outcome.specs.Figures.{orEstimate, style, dip, width, zhypTenths, ztor, rrup, basinOf, z25}
 use Rattle.outcome.specs.Refusals.{sourceGiven, sourceRows, pathGiven}
 use Rattle.outcome.proofs.Ranges.{source-range, source-given, top-range, path-range}
 
 -- what a blank field is completed to
-estimated-is : (f : Field) (e : ℕ) → f ≡ Blank → figureOf f e .value ≡ e
-unfolding figureOf
+estimated-is : (f : Field) (e : ℕ) → f ≡ Blank → sizeOf (orEstimate f e) ≡ e
+unfolding orEstimate isBlank sizeOf valueOf
 estimated-is f e h = rw h
 
 module _ (r : Request) where
@@ -31,49 +31,49 @@ module _ (r : Request) where
   -- W reads M
   pub width-near :
       r .w ≡ Blank → 400 ≤ sizeOf (r .m) → sizeOf (r .m) ≤ 850
-      → NearZ E30 2 (pos (width r .value)) (pos (widthE (style r) (sizeOf (r .m))))
+      → NearZ E30 2 (pos (sizeOf (width r))) (pos (widthE (style r) (sizeOf (r .m))))
   unfolding width
   width-near h low high = rw (estimated-is (r .w) _ h) (widthFixed-near (style r) (sizeOf (r .m)) low high .near)
 
   -- ZTOR reads W and the dip; ZHYP may be any number
   pub ztor-near :
-      r .ztor ≡ Blank → width r .value ≤ 100000 → dip r .value ≤ 90
-      → NearZ E30 2 (pos (ztor r .value)) (pos (topE (zhyp r) (width r .value) (dip r .value)))
+      r .ztor ≡ Blank → sizeOf (width r) ≤ 100000 → sizeOf (dip r) ≤ 90
+      → NearZ E30 2 (pos (sizeOf (ztor r))) (pos (topE (zhypTenths r) (sizeOf (width r)) (sizeOf (dip r))))
   unfolding ztor
-  ztor-near h w d = rw (estimated-is (r .ztor) _ h) (topFixed-near (zhyp r) (width r .value) (dip r .value) w d)
+  ztor-near h w d = rw (estimated-is (r .ztor) _ h) (topFixed-near (zhypTenths r) (sizeOf (width r)) (sizeOf (dip r)) w d)
 
   pub rrup-near :
-      r .rrup ≡ Blank → RuptureInRange (dip r .value) (width r .value) (ztor r .value) (sizeOf (r .rjb))
-      → NearZ E30 2 (pos (rrup r .value))
-      (pos (ruptureDistanceE (dip r .value) (valueOf (r .azimuth)) (width r .value) (ztor r .value) (sizeOf (r .rjb))))
+      r .rrup ≡ Blank → RuptureInRange (sizeOf (dip r)) (sizeOf (width r)) (sizeOf (ztor r)) (sizeOf (r .rjb))
+      → NearZ E30 2 (pos (sizeOf (rrup r)))
+      (pos (ruptureDistanceE (sizeOf (dip r)) (valueOf (r .azimuth)) (sizeOf (width r)) (sizeOf (ztor r)) (sizeOf (r .rjb))))
   unfolding rrup
   rrup-near h ranges =
       rw (estimated-is (r .rrup) _ h)
-      (reported-near (dip r .value) (valueOf (r .azimuth)) (width r .value) (ztor r .value) (sizeOf (r .rjb)) ranges)
+      (reported-near (sizeOf (dip r)) (valueOf (r .azimuth)) (sizeOf (width r)) (sizeOf (ztor r)) (sizeOf (r .rjb)) ranges)
 
   -- Z2.5 reads Vs30 where no other depth is given
   pub z25-near :
       r .z25 ≡ Blank → r .z15 ≡ Blank → r .z10 ≡ Blank → 150 ≤ sizeOf (r .vs30) → sizeOf (r .vs30) ≤ 1500
-      → NearZ E30 2 (pos (z25 r .value)) (pos (basinE (sizeOf (r .vs30))))
-  unfolding z25 basinOf
+      → NearZ E30 2 (pos (sizeOf (z25 r))) (pos (basinE (sizeOf (r .vs30))))
+  unfolding z25 basinOf isGiven
   z25-near h k l low high = rw (estimated-is (r .z25) _ h, k, l) (basinFixed-near (sizeOf (r .vs30)) low high .near)
 
   -- ---- never below the root of RJB² + ZTOR², whatever they are
   pub rrup-above :
-      r .rrup ≡ Blank → sizeOf (r .rjb) * sizeOf (r .rjb) + ztor r .value * ztor r .value ≤ rrup r .value * rrup r .value
+      r .rrup ≡ Blank → sizeOf (r .rjb) * sizeOf (r .rjb) + sizeOf (ztor r) * sizeOf (ztor r) ≤ sizeOf (rrup r) * sizeOf (rrup r)
   unfolding rrup
   rrup-above h =
       rw (estimated-is (r .rrup) _ h)
-      (reported-above (dip r .value) (valueOf (r .azimuth)) (width r .value) (ztor r .value) (sizeOf (r .rjb)))
+      (reported-above (sizeOf (dip r)) (valueOf (r .azimuth)) (sizeOf (width r)) (sizeOf (ztor r)) (sizeOf (r .rjb)))
 
   -- ---- what a rule reads, where no row before it holds
   -- before the row of a completed ZTOR
-  pub top-reads : Silent (sourceGiven r) → (width r .value ≤ 100000) × (dip r .value ≤ 90)
+  pub top-reads : Silent (sourceGiven r) → (sizeOf (width r) ≤ 100000) × (sizeOf (dip r) ≤ 90)
   top-reads s = let n = source-range r (silent-first (sourceGiven r) s) in (n .w-high, n .dip-high)
 
   -- before the row of a completed RRUP
   pub distance-reads :
-      Silent (sourceRows r) → Silent (pathGiven r) → RuptureInRange (dip r .value) (width r .value) (ztor r .value) (sizeOf (r .rjb))
+      Silent (sourceRows r) → Silent (pathGiven r) → RuptureInRange (sizeOf (dip r)) (sizeOf (width r)) (sizeOf (ztor r)) (sizeOf (r .rjb))
   distance-reads s t =
       let e = silent-first (sourceRows r) s in
       let n = source-range r (source-given r e) in

@@ -1,6 +1,6 @@
 -- The table of refusals stands in document 01's order. A request is refused with n exactly when a row of n holds and no row before it
 -- does, and accepted exactly when none holds. Assumes nothing.
-use Prim.Native.Nat.{ℕ, zero, suc, _≤_}
+use Prim.Native.Nat.{ℕ, zero, suc, _≤_, _<_}
 use mathlib.Core.Path.{_≡_, refl, sym, ap, _∙_}
 use mathlib.Core.List.{_++_}
 use mathlib.Core.Logic.{_↔_}
@@ -11,17 +11,17 @@ use Rattle.request.specs.declared.Request.{Request}
 use Rattle.outcome.specs.declared.Completion.the-variants as C
 use Rattle.refusals.specs.Order.{first, Fires, Silent, InOrder}
 use Rattle.refusals.specs.Order as No
-use Rattle.outcome.specs.Refusals.{sourceGiven, sourceRows, pathGiven, pathRows, siteGiven, siteRows, rows, refusal}
+use Rattle.outcome.specs.Refusals.{markedRows, sourceGiven, sourceRows, pathGiven, pathRows, siteGiven, siteRows, rows, refusal}
 use Rattle.outcome.specs.Answers.{completed, answer, completionOf, numberOf}
-use Rattle.refusals.proofs.Rows.{numbered, first-most, first-absent, first-both, fires-first, first-fires, silent-first, first-silent}
+use Rattle.refusals.proofs.Rows.{numbered, absent, first-most, first-absent, first-both, fires-first, first-fires, silent-first, first-silent}
 
 pub in-order : (r : Request) → InOrder (rows r)
-unfolding rows sourceRows sourceGiven pathRows pathGiven siteRows siteGiven
+unfolding rows markedRows sourceRows sourceGiven pathRows pathGiven siteRows siteGiven
 in-order r = tt
 
 -- of as many rows
-pub row-count : (r : Request) → length (rows r) ≡ 18
-unfolding rows sourceRows sourceGiven pathRows pathGiven siteRows siteGiven
+pub row-count : (r : Request) → length (rows r) ≡ 19
+unfolding rows markedRows sourceRows sourceGiven pathRows pathGiven siteRows siteGiven
 row-count r = refl
 
 -- an answer's number is the refusal's
@@ -51,20 +51,32 @@ pub accepted-refusal : (r : Request) → completionOf r ≡ C.Done (completed r)
 accepted-refusal r e = sym (number-is r) ∙ ap numberOf e
 
 -- ---- the numbers
--- none is above that of the last row
-pub number-most : (r : Request) → refusal r ≤ No.basin
-unfolding refusal rows sourceRows sourceGiven pathRows pathGiven siteRows siteGiven
-number-most r = first-most No.basin (rows r) tt
+-- none is above that of the first row
+pub number-most : (r : Request) → refusal r ≤ No.marked
+unfolding refusal rows markedRows sourceRows sourceGiven pathRows pathGiven siteRows siteGiven
+number-most r = first-most No.marked (rows r) tt
 
--- no completion is refused for a measure: no row has that number
+-- no completion is refused with a number that no row has: for a measure, or for a period
+other-unread : (r : Request) (n : ℕ) → 0 < n → T (absent n (rows r)) → completionOf r ≡ C.Refused n → ⊥
+unfolding refusal
+other-unread r n h t e = first-absent n (rows r) h t (sym (number-is r) ∙ ap numberOf e)
+
 pub measure-unread : (r : Request) → completionOf r ≡ C.Refused No.noMeasure → ⊥
-unfolding refusal rows sourceRows sourceGiven pathRows pathGiven siteRows siteGiven
-measure-unread r e = first-absent No.noMeasure (rows r) (omega arith) tt (sym (number-is r) ∙ ap numberOf e)
+unfolding rows markedRows sourceRows sourceGiven pathRows pathGiven siteRows siteGiven
+measure-unread r e = other-unread r No.noMeasure (omega arith) tt e
+
+pub period-unread : (r : Request) → completionOf r ≡ C.Refused No.noPeriod → ⊥
+unfolding rows markedRows sourceRows sourceGiven pathRows pathGiven siteRows siteGiven
+period-unread r e = other-unread r No.noPeriod (omega arith) tt e
 
 -- every row has its number
 pub rows-numbered : (r : Request) → T (numbered (rows r))
-unfolding rows sourceRows sourceGiven pathRows pathGiven siteRows siteGiven
+unfolding rows markedRows sourceRows sourceGiven pathRows pathGiven siteRows siteGiven
 rows-numbered r = tt
+
+pub marked-numbered : (r : Request) → T (numbered (markedRows r))
+unfolding markedRows
+marked-numbered r = tt
 
 pub source-numbered : (r : Request) → T (numbered (sourceRows r))
 unfolding sourceRows sourceGiven
@@ -85,6 +97,7 @@ accepted-exactly r =
 
 -- an accepted request is accepted at each stage
 pub record Stages (r : Request) : Type 0 where
+  pub unmarked : first (markedRows r) ≡ 0
   pub source : first (sourceRows r) ≡ 0
   pub path : first (pathRows r) ≡ 0
   pub site : first (siteRows r) ≡ 0
@@ -92,6 +105,7 @@ pub record Stages (r : Request) : Type 0 where
 pub stages : (r : Request) → refusal r ≡ 0 → Stages r
 unfolding refusal rows
 stages r e =
-    let a = first-both (sourceRows r) (pathRows r ++ siteRows r) (source-numbered r) e in
+    let u = first-both (markedRows r) (sourceRows r ++ (pathRows r ++ siteRows r)) (marked-numbered r) e in
+    let a = first-both (sourceRows r) (pathRows r ++ siteRows r) (source-numbered r) (u .1) in
     let b = first-both (pathRows r) (siteRows r) (all-path-numbered r) (a .1) in
-    record { source = a .0; path = b .0; site = b .1 }
+    record { unmarked = u .0; source = a .0; path = b .0; site = b .1 }

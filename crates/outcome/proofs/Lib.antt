@@ -1,7 +1,9 @@
 pub mod Ranges
+pub mod FigureLaws
 pub mod ExactlyWhen
 pub mod EstimatesNear
 pub mod Alone
-pub mod SentBackWhole
 pub mod OneAnswer
 pub mod Staged
+pub mod SentBackWhole
+pub mod Origins

@@ -6,8 +6,9 @@ use mathlib.Core.List.{[], _∷_, _++_}
 use native.Mathlib.Omega.{arith}
 use lib.Dec.{T}
 use borrow.Author.Tests.{lt-ltb, le-ltb}
+use Rattle.request.specs.declared.Field.{Field}
 use Rattle.request.specs.declared.Request.{Request}
-use Rattle.outcome.specs.declared.Figure.{Figure}
+use Rattle.request.specs.Fields.{sizeOf, marked}
 use Rattle.outcome.specs.declared.Source.{Source}
 use Rattle.outcome.specs.declared.SourceAnswer.the-variants as S
 use Rattle.outcome.specs.declared.FigureAnswer.the-variants as F
@@ -15,11 +16,11 @@ use Rattle.outcome.specs.declared.Completion.the-variants as C
 use Rattle.outcome.specs.Figures.{ztor, rrup, z25}
 use Rattle.refusals.specs.Order.{Rows, first}
 use Rattle.refusals.specs.Order as No
-use Rattle.outcome.specs.Refusals.{sourceGiven, sourceCompleted, sourceRows, tooShort, pathGiven, pathCompleted, pathRows, siteGiven, siteCompleted, siteRows, rows, refusal}
+use Rattle.outcome.specs.Refusals.{markedRows, sourceGiven, sourceCompleted, sourceRows, tooShort, pathGiven, pathCompleted, pathRows, siteGiven, siteCompleted, siteRows, rows, refusal}
 use Rattle.outcome.specs.Answers.{answer, completionOf}
 use Rattle.outcome.specs.Stages.{sourceFigures, sourceAnswer, sourceAnswerOf, figureAnswer, pathAnswerOf, siteAnswerOf}
 use Rattle.refusals.proofs.Rows.{numbered, nothing, skip, holds, passes, three, first-after, first-before}
-use Rattle.outcome.proofs.ExactlyWhen.{source-numbered, path-numbered, all-path-numbered}
+use Rattle.outcome.proofs.ExactlyWhen.{marked-numbered, source-numbered, path-numbered, all-path-numbered}
 
 positive : (n : ℕ) → 0 < n → (k : ℕ) × (n ≡ suc k)
 positive zero h = absurd (omega arith)
@@ -44,14 +45,14 @@ given-numbered : (r : Request) → T (numbered (sourceGiven r))
 unfolding sourceGiven
 given-numbered r = tt
 
-pub source-deep : (r : Request) → first (sourceGiven r) ≡ 0 → 15000 < ztor r .value → S.Refused No.top ≡ sourceAnswerOf r
+pub source-deep : (r : Request) → first (sourceGiven r) ≡ 0 → 15000 < sizeOf (ztor r) → S.Refused No.top ≡ sourceAnswerOf r
 unfolding sourceRows
 source-deep r e h =
     source-number r No.top
     (first-after (sourceGiven r) (sourceCompleted r) (given-numbered r) e ∙ holds _ _ [] (lt-ltb _ _ h))
     (omega arith)
 
-pub source-clear : (r : Request) → first (sourceGiven r) ≡ 0 → ztor r .value ≤ 15000 → first (sourceRows r) ≡ 0
+pub source-clear : (r : Request) → first (sourceGiven r) ≡ 0 → sizeOf (ztor r) ≤ 15000 → first (sourceRows r) ≡ 0
 unfolding sourceRows
 source-clear r e h =
     first-after (sourceGiven r) (sourceCompleted r) (given-numbered r) e ∙ skip _ _ [] (le-ltb _ _ h) nothing
@@ -61,13 +62,13 @@ unfolding sourceAnswerOf sourceAnswer
 source-known r e = sym (ap (λ (i : ℕ). sourceAnswer i r) e)
 
 -- ---- one figure
-figure-number : (i n : ℕ) (f : Figure) → i ≡ n → 0 < n → F.Refused n ≡ figureAnswer i f
+figure-number : (i n : ℕ) (f : Field) → i ≡ n → 0 < n → F.Refused n ≡ figureAnswer i f
 unfolding figureAnswer
 figure-number i n f e h =
     let k = positive n h in
     ap F.Refused (k .1) ∙ sym (ap (λ (j : ℕ). figureAnswer j f) (e ∙ k .1))
 
-figure-known : (i : ℕ) (f : Figure) → i ≡ 0 → F.Known f ≡ figureAnswer i f
+figure-known : (i : ℕ) (f : Field) → i ≡ 0 → F.Known f ≡ figureAnswer i f
 unfolding figureAnswer
 figure-known i f e = sym (ap (λ (j : ℕ). figureAnswer j f) e)
 
@@ -76,7 +77,7 @@ pub path-refused : (r : Request) (n : ℕ) → n ≡ first (pathGiven r) → 0 <
 unfolding pathAnswerOf pathRows
 path-refused r n e h = figure-number (first (pathRows r)) n (rrup r) (stops (pathGiven r) (pathCompleted r) n e h) h
 
-pub path-far : (r : Request) → first (pathGiven r) ≡ 0 → 200000 < rrup r .value → F.Refused No.rrup ≡ pathAnswerOf r
+pub path-far : (r : Request) → first (pathGiven r) ≡ 0 → 200000 < sizeOf (rrup r) → F.Refused No.rrup ≡ pathAnswerOf r
 unfolding pathAnswerOf pathRows
 path-far r e h =
     figure-number (first (pathRows r)) No.rrup (rrup r)
@@ -84,7 +85,7 @@ path-far r e h =
     ∙ holds _ _ ((No.tooShort, tooShort r) ∷ []) (lt-ltb _ _ h))
     (omega arith)
 
-pub path-short : (r : Request) → first (pathGiven r) ≡ 0 → rrup r .value ≤ 200000 → tooShort r ≡ true → F.Refused No.tooShort ≡ pathAnswerOf r
+pub path-short : (r : Request) → first (pathGiven r) ≡ 0 → sizeOf (rrup r) ≤ 200000 → tooShort r ≡ true → F.Refused No.tooShort ≡ pathAnswerOf r
 unfolding pathAnswerOf pathRows
 path-short r e h t =
     figure-number (first (pathRows r)) No.tooShort (rrup r)
@@ -94,7 +95,7 @@ path-short r e h t =
     (omega arith)
 
 pub path-known :
-    (r : Request) → first (pathGiven r) ≡ 0 → rrup r .value ≤ 200000 → tooShort r ≡ false
+    (r : Request) → first (pathGiven r) ≡ 0 → sizeOf (rrup r) ≤ 200000 → tooShort r ≡ false
     → F.Known (rrup r) ≡ pathAnswerOf r
 unfolding pathAnswerOf pathRows
 path-known r e h t =
@@ -111,14 +112,14 @@ pub site-refused : (r : Request) (n : ℕ) → n ≡ first (siteGiven r) → 0 <
 unfolding siteAnswerOf siteRows
 site-refused r n e h = figure-number (first (siteRows r)) n (z25 r) (stops (siteGiven r) (siteCompleted r) n e h) h
 
-pub site-deep : (r : Request) → first (siteGiven r) ≡ 0 → 10000 < z25 r .value → F.Refused No.basin ≡ siteAnswerOf r
+pub site-deep : (r : Request) → first (siteGiven r) ≡ 0 → 10000 < sizeOf (z25 r) → F.Refused No.basin ≡ siteAnswerOf r
 unfolding siteAnswerOf siteRows
 site-deep r e h =
     figure-number (first (siteRows r)) No.basin (z25 r)
     (first-after (siteGiven r) (siteCompleted r) (site-numbered r) e ∙ holds _ _ [] (lt-ltb _ _ h))
     (omega arith)
 
-pub site-known : (r : Request) → first (siteGiven r) ≡ 0 → z25 r .value ≤ 10000 → F.Known (z25 r) ≡ siteAnswerOf r
+pub site-known : (r : Request) → first (siteGiven r) ≡ 0 → sizeOf (z25 r) ≤ 10000 → F.Known (z25 r) ≡ siteAnswerOf r
 unfolding siteAnswerOf siteRows
 site-known r e h =
     figure-known (first (siteRows r)) (z25 r)
@@ -128,6 +129,24 @@ site-known r e h =
 whole-number : (r : Request) (n : ℕ) → refusal r ≡ suc n → C.Refused (suc n) ≡ completionOf r
 unfolding completionOf answer
 whole-number r n e = sym (ap (λ (i : ℕ). answer i r) e)
+
+whole : (r : Request) (n : ℕ) → first (rows r) ≡ n → 0 < n → C.Refused n ≡ completionOf r
+unfolding refusal
+whole r n e h = let k = positive n h in ap C.Refused (k .1) ∙ whole-number r (k .0) (e ∙ k .1)
+
+-- a figure that is already marked as ours, before all else
+pub marked-tells : (r : Request) → marked r ≡ true → C.Refused No.marked ≡ completionOf r
+unfolding rows markedRows
+marked-tells r t = whole r No.marked (holds _ _ _ t) (omega arith)
+
+pub unmarked : (r : Request) → marked r ≡ false → first (markedRows r) ≡ 0
+unfolding markedRows
+unmarked r t = skip _ _ [] t nothing
+
+-- where none is, the stages decide
+by-stages : (r : Request) → first (markedRows r) ≡ 0 → first (rows r) ≡ first (sourceRows r ++ (pathRows r ++ siteRows r))
+unfolding rows
+by-stages r u = first-after (markedRows r) (sourceRows r ++ (pathRows r ++ siteRows r)) (marked-numbered r) u
 
 -- what a stage's answer says of its rows
 pub record Known {A : Type 0} (rows : Rows) (x y : A) : Type 0 where
@@ -143,61 +162,64 @@ pub source-says : (r : Request) (s : Source) → sourceAnswerOf r ≡ S.Known s 
 unfolding sourceAnswerOf
 source-says r s k = source-said (first (sourceRows r)) r s refl k
 
-source-told : (i n : ℕ) (r : Request) → first (sourceRows r) ≡ i → sourceAnswer i r ≡ S.Refused n → C.Refused n ≡ completionOf r
-unfolding sourceAnswer refusal rows
-source-told zero n r e k = let z : _≡_ {A = ℕ} 0 1 = cc in absurd (omega arith)
-source-told (suc i) n r e k =
-    let same : suc i ≡ n = cc in
-    ap C.Refused (sym same) ∙ whole-number r i (first-before (sourceRows r) (pathRows r ++ siteRows r) i e)
+source-told : (i n : ℕ) (r : Request) → sourceAnswer i r ≡ S.Refused n → (i ≡ n) × (0 < n)
+unfolding sourceAnswer
+source-told zero n r k = let z : _≡_ {A = ℕ} 0 1 = cc in absurd (omega arith)
+source-told (suc i) n r k = let same : suc i ≡ n = cc in (same, omega arith)
 
-pub source-tells : (r : Request) (n : ℕ) → sourceAnswerOf r ≡ S.Refused n → C.Refused n ≡ completionOf r
+pub source-tells : (r : Request) (n : ℕ) → first (markedRows r) ≡ 0 → sourceAnswerOf r ≡ S.Refused n → C.Refused n ≡ completionOf r
 unfolding sourceAnswerOf
-source-tells r n k = source-told (first (sourceRows r)) n r refl k
+source-tells r n u k =
+    let t = source-told (first (sourceRows r)) n r k in
+    whole r n (by-stages r u ∙ stops (sourceRows r) (pathRows r ++ siteRows r) n (sym (t .0)) (t .1)) (t .1)
 
-figure-said : (rows : Rows) (n : ℕ) (f g : Figure) → first rows ≡ n → figureAnswer n g ≡ F.Known f → Known rows f g
+figure-said : (rows : Rows) (n : ℕ) (f g : Field) → first rows ≡ n → figureAnswer n g ≡ F.Known f → Known rows f g
 unfolding figureAnswer
 figure-said rows zero f g e k = record { silent = e; same = cc }
 figure-said rows (suc n) f g e k = let z : _≡_ {A = ℕ} 0 1 = cc in absurd (omega arith)
 
-pub path-says : (r : Request) (f : Figure) → pathAnswerOf r ≡ F.Known f → Known (pathRows r) f (rrup r)
+pub path-says : (r : Request) (f : Field) → pathAnswerOf r ≡ F.Known f → Known (pathRows r) f (rrup r)
 unfolding pathAnswerOf
 path-says r f k = figure-said (pathRows r) (first (pathRows r)) f (rrup r) refl k
 
-pub site-says : (r : Request) (f : Figure) → siteAnswerOf r ≡ F.Known f → Known (siteRows r) f (z25 r)
+pub site-says : (r : Request) (f : Field) → siteAnswerOf r ≡ F.Known f → Known (siteRows r) f (z25 r)
 unfolding siteAnswerOf
 site-says r f k = figure-said (siteRows r) (first (siteRows r)) f (z25 r) refl k
 
 -- a number of a stage's answer is that of its rows, and not 0
-figure-told : (i n : ℕ) (f : Figure) → figureAnswer i f ≡ F.Refused n → (i ≡ n) × (0 < n)
+figure-told : (i n : ℕ) (f : Field) → figureAnswer i f ≡ F.Refused n → (i ≡ n) × (0 < n)
 unfolding figureAnswer
 figure-told zero n f k = let z : _≡_ {A = ℕ} 0 1 = cc in absurd (omega arith)
 figure-told (suc i) n f k = let same : suc i ≡ n = cc in (same, omega arith)
 
-whole : (r : Request) (n : ℕ) → first (rows r) ≡ n → 0 < n → C.Refused n ≡ completionOf r
-unfolding refusal
-whole r n e h = let k = positive n h in ap C.Refused (k .1) ∙ whole-number r (k .0) (e ∙ k .1)
-
-pub path-tells : (r : Request) (n : ℕ) → first (sourceRows r) ≡ 0 → pathAnswerOf r ≡ F.Refused n → C.Refused n ≡ completionOf r
-unfolding pathAnswerOf rows
-path-tells r n a k =
+pub path-tells :
+    (r : Request) (n : ℕ) → first (markedRows r) ≡ 0 → first (sourceRows r) ≡ 0 → pathAnswerOf r ≡ F.Refused n
+    → C.Refused n ≡ completionOf r
+unfolding pathAnswerOf
+path-tells r n u a k =
     let t = figure-told (first (pathRows r)) n (rrup r) k in
     whole r n
-    (first-after (sourceRows r) (pathRows r ++ siteRows r) (source-numbered r) a
+    (by-stages r u
+    ∙ first-after (sourceRows r) (pathRows r ++ siteRows r) (source-numbered r) a
     ∙ stops (pathRows r) (siteRows r) n (sym (t .0)) (t .1))
     (t .1)
 
 pub site-tells :
-    (r : Request) (n : ℕ) → first (sourceRows r) ≡ 0 → first (pathRows r) ≡ 0 → siteAnswerOf r ≡ F.Refused n → C.Refused n ≡ completionOf r
-unfolding siteAnswerOf rows
-site-tells r n a b k =
+    (r : Request) (n : ℕ) → first (markedRows r) ≡ 0 → first (sourceRows r) ≡ 0 → first (pathRows r) ≡ 0 → siteAnswerOf r ≡ F.Refused n
+    → C.Refused n ≡ completionOf r
+unfolding siteAnswerOf
+site-tells r n u a b k =
     let t = figure-told (first (siteRows r)) n (z25 r) k in
     whole r n
-    (first-after (sourceRows r) (pathRows r ++ siteRows r) (source-numbered r) a
+    (by-stages r u
+    ∙ first-after (sourceRows r) (pathRows r ++ siteRows r) (source-numbered r) a
     ∙ first-after (pathRows r) (siteRows r) (all-path-numbered r) b
     ∙ t .0)
     (t .1)
 
 -- three silent stages accept
-pub all-silent : (r : Request) → first (sourceRows r) ≡ 0 → first (pathRows r) ≡ 0 → first (siteRows r) ≡ 0 → refusal r ≡ 0
-unfolding refusal rows
-all-silent r a b c = three (sourceRows r) (pathRows r) (siteRows r) (source-numbered r) (all-path-numbered r) a b c
+pub all-silent :
+    (r : Request) → first (markedRows r) ≡ 0 → first (sourceRows r) ≡ 0 → first (pathRows r) ≡ 0 → first (siteRows r) ≡ 0 → refusal r ≡ 0
+unfolding refusal
+all-silent r u a b c =
+    by-stages r u ∙ three (sourceRows r) (pathRows r) (siteRows r) (source-numbered r) (all-path-numbered r) a b c

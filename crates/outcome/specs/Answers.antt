@@ -1,30 +1,30 @@
 -- The answer to a request, stage by stage and whole: the completed figures where no row of `Refusals` holds, else the number of the
 -- first that does. Definitions only.
 use Prim.Native.Nat.{ℕ, zero, suc}
-use mathlib.Core.Bool.{false}
-use lib.IntN.{pos}
+use Rattle.request.specs.declared.Field.the-variants.{Blank}
 use Rattle.request.specs.declared.Request.{Request}
-use Rattle.request.specs.Fields.{sizeOf, valueOf}
-use Rattle.outcome.specs.declared.Figure.{Figure}
-use Rattle.outcome.specs.declared.Completed.{Completed}
 use Rattle.outcome.specs.declared.Completion.{Completion}
 use Rattle.outcome.specs.declared.Completion.the-variants as C
-use Rattle.outcome.specs.Figures.{dip, width, ztor, rrup, z25}
+use Rattle.outcome.specs.Figures.{dip, width, zhyp, ztor, rrup, z25}
 use Rattle.outcome.specs.Refusals.{refusal}
 
-unfoldable pub completed : Request → Completed
-unfolding dip width ztor rrup z25 sizeOf valueOf
+-- what was blank and has a rule is estimated; a blank Z1.0 or Z1.5 stays blank
+unfoldable pub completed : Request → Request
+unfolding dip width zhyp ztor rrup z25
 completed r =
     record {
-      m = sizeOf (r .m);
-      rake = valueOf (r .rake);
-      vs30 = sizeOf (r .vs30);
+      m = r .m;
+      rake = r .rake;
+      vs30 = r .vs30;
       dip = dip r;
       w = width r;
+      zhyp = zhyp r;
       ztor = ztor r;
-      rjb = sizeOf (r .rjb);
-      azimuth = valueOf (r .azimuth);
+      rjb = r .rjb;
+      azimuth = r .azimuth;
       rrup = rrup r;
+      z10 = r .z10;
+      z15 = r .z15;
       z25 = z25 r;
     }
 
@@ -37,26 +37,26 @@ unfoldable pub completionOf : Request → Completion
 unfolding answer refusal
 completionOf r = answer (refusal r) r
 
--- ---- what an answer says in document 01's terms: its number, 0 for none, and its figures, zeros beside a refusal
+-- ---- what an answer says in document 01's terms: its number, 0 for none, and its figures, none beside a refusal
 abbrev pub numberOf : Completion → ℕ
 numberOf (C.Done c) = 0
 numberOf (C.Refused n) = n
 
-abbrev noFigure : Figure
-noFigure = record { value = 0; estimated = false }
-
-unfoldable pub figuresOf : Completion → Completed
+unfoldable pub figuresOf : Completion → Request
 figuresOf (C.Done c) = c
 figuresOf (C.Refused n) =
     record {
-      m = 0;
-      rake = pos 0;
-      vs30 = 0;
-      dip = noFigure;
-      w = noFigure;
-      ztor = noFigure;
-      rjb = 0;
-      azimuth = pos 0;
-      rrup = noFigure;
-      z25 = noFigure;
+      m = Blank;
+      rake = Blank;
+      vs30 = Blank;
+      dip = Blank;
+      w = Blank;
+      zhyp = Blank;
+      ztor = Blank;
+      rjb = Blank;
+      azimuth = Blank;
+      rrup = Blank;
+      z10 = Blank;
+      z15 = Blank;
+      z25 = Blank;
     }

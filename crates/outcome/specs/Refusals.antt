@@ -8,9 +8,15 @@ use lib.IntN.{pos, negsuc}
 use Rattle.refusals.specs.Order.{Rows, first}
 use Rattle.refusals.specs.Order as No
 use Rattle.request.specs.declared.Request.{Request}
-use Rattle.request.specs.Fields.{within, allowed, isBlank, sizeOf}
+use Rattle.request.specs.Fields.{isGiven, isBlank, sizeOf, within, allowed, marked}
 use Rattle.request.specs.Styles.{topMagnitude}
 use Rattle.outcome.specs.Figures.{style, dip, ztor, rrup, z25}
+
+-- ---- what comes before all else
+-- a figure is already marked as estimated by us
+unfoldable pub markedRows : Request → Rows
+unfolding marked
+markedRows r = (No.marked, marked r) ∷ []
 
 -- ---- the source: the rows that read given figures, then those that read completed ones
 unfoldable pub sourceGiven : Request → Rows
@@ -26,18 +32,18 @@ sourceGiven r =
     ∷ []
 
 abbrev pub sourceCompleted : Request → Rows
-sourceCompleted r = (No.top, ltb 15000 (ztor r .value)) ∷ []
+sourceCompleted r = (No.top, ltb 15000 (sizeOf (ztor r))) ∷ []
 
 unfoldable pub sourceRows : Request → Rows
-unfolding sourceGiven ztor
+unfolding sourceGiven ztor sizeOf
 sourceRows r = sourceGiven r ++ sourceCompleted r
 
 -- ---- the path
 -- the site is above the rupture, where no distance follows from RJB
 unfoldable pub aboveRupture : Request → Bool
-unfolding isBlank within dip
+unfolding isBlank within dip sizeOf
 aboveRupture r =
-    isBlank (r .rrup) && (ltb (dip r .value) 90 && (within (r .rjb) (pos 0) (pos 0) && within (r .azimuth) (pos 90) (pos 90)))
+    isBlank (r .rrup) && (ltb (sizeOf (dip r)) 90 && (within (r .rjb) (pos 0) (pos 0) && within (r .azimuth) (pos 90) (pos 90)))
 
 unfoldable pub pathGiven : Request → Rows
 unfolding within allowed aboveRupture
@@ -50,16 +56,16 @@ pathGiven r =
 
 -- a given RRUP is shorter than any way from the site to the top of the rupture
 unfoldable pub tooShort : Request → Bool
-unfolding isBlank sizeOf ztor
+unfolding isGiven sizeOf ztor
 tooShort r =
     let d : ℕ = sizeOf (r .rrup) + 1 in
-    not (isBlank (r .rrup)) && ltb (d * d) (sizeOf (r .rjb) * sizeOf (r .rjb) + ztor r .value * ztor r .value)
+    isGiven (r .rrup) && ltb (d * d) (sizeOf (r .rjb) * sizeOf (r .rjb) + sizeOf (ztor r) * sizeOf (ztor r))
 
 abbrev pub pathCompleted : Request → Rows
-pathCompleted r = (No.rrup, ltb 200000 (rrup r .value)) ∷ (No.tooShort, tooShort r) ∷ []
+pathCompleted r = (No.rrup, ltb 200000 (sizeOf (rrup r))) ∷ (No.tooShort, tooShort r) ∷ []
 
 unfoldable pub pathRows : Request → Rows
-unfolding pathGiven tooShort rrup
+unfolding pathGiven tooShort rrup sizeOf
 pathRows r = pathGiven r ++ pathCompleted r
 
 -- ---- the site
@@ -72,16 +78,16 @@ siteGiven r =
     ∷ []
 
 abbrev pub siteCompleted : Request → Rows
-siteCompleted r = (No.basin, ltb 10000 (z25 r .value)) ∷ []
+siteCompleted r = (No.basin, ltb 10000 (sizeOf (z25 r))) ∷ []
 
 unfoldable pub siteRows : Request → Rows
-unfolding siteGiven z25
+unfolding siteGiven z25 sizeOf
 siteRows r = siteGiven r ++ siteCompleted r
 
 -- ---- all of them
 unfoldable pub rows : Request → Rows
-unfolding sourceRows pathRows siteRows
-rows r = sourceRows r ++ (pathRows r ++ siteRows r)
+unfolding markedRows sourceRows pathRows siteRows
+rows r = markedRows r ++ (sourceRows r ++ (pathRows r ++ siteRows r))
 
 unfoldable pub refusal : Request → ℕ
 unfolding first rows

@@ -2,33 +2,27 @@
 // the figures hang together, the source of the shaking, the path to the site, the site itself. What they
 // are is in specs/, and proofs/ says what holds of them; the stages' crates and completion reckon them.
 use request::Field;
-use request::size_of;
+use request::Request;
 ghost use mathlib.Core.Path.{_≡_};
-ghost use Rattle.outcome.specs.Figures.{figureGiven};
+ghost use Prim.Native.Nat.{_<_};
+ghost use Rattle.outcome.specs.Figures.{estimated};
 ghost use Rattle.outcome.specs.Answers.{numberOf};
 ghost use Rattle.outcome.specs.Stages.{sourceNumber, figureNumber};
 
-// A figure, and whether it was estimated because the field was blank.
-pub struct Figure {
-    pub value: u64,
-    pub estimated: bool,
-}
-
-// The figure that was given.
-pub fn given_figure(f: Field) -> Figure
-    ensures { λ r. ⌜ r ≡ figureGiven f ⌝ }
+// A figure that we estimate, marked as such.
+pub fn estimated_figure(e: u64) -> Field
+    requires { ⌜ e < 9223372036854775808 ⌝ }
+    ensures { λ r. ⌜ r ≡ estimated e ⌝ }
 {
-    Figure {
-        value: size_of(f),
-        estimated: false,
-    }
+    Field::Estimated(e as i64)
 }
 
 // The completed figures of the source.
 pub struct Source {
-    pub dip: Figure,
-    pub w: Figure,
-    pub ztor: Figure,
+    pub dip: Field,
+    pub w: Field,
+    pub zhyp: Field,
+    pub ztor: Field,
 }
 
 // The answer of the source's stage: its figures, or the refusal's number.
@@ -49,7 +43,7 @@ pub fn source_number(a: SourceAnswer) -> u32
 
 // The answer of the path's stage and of the site's: one figure, or the refusal's number.
 pub enum FigureAnswer {
-    Known(Figure),
+    Known(Field),
     Refused(u32),
 }
 
@@ -63,24 +57,10 @@ pub fn figure_number(a: FigureAnswer) -> u32
     }
 }
 
-// What is known of a request once it is completed: magnitude in hundredths, angles in degrees, Vs30
-// in m/s, lengths and depths in metres.
-pub struct Completed {
-    pub m: u64,
-    pub rake: i64,
-    pub vs30: u64,
-    pub dip: Figure,
-    pub w: Figure,
-    pub ztor: Figure,
-    pub rjb: u64,
-    pub azimuth: i64,
-    pub rrup: Figure,
-    pub z25: Figure,
-}
-
-// The whole answer: the completed figures, or the refusal's number.
+// The whole answer: the request with its blank figures estimated, each field saying where its figure came
+// from, or the refusal's number.
 pub enum Completion {
-    Done(Completed),
+    Done(Request),
     Refused(u32),
 }
 

@@ -1,12 +1,12 @@
 // The path from the rupture to the site: its length RRUP.
-use outcome::Figure;
 use outcome::FigureAnswer;
 use outcome::Source;
-use outcome::given_figure;
+use outcome::estimated_figure;
 use request::Field;
 use request::Request;
 use request::is_allowed;
 use request::is_blank;
+use request::is_given;
 use request::is_within;
 use request::size_of;
 use request::value_of;
@@ -21,7 +21,7 @@ ghost use Rattle.outcome.specs.Stages.{sourceFigures, pathAnswerOf};
 
 // Whether the site is above the rupture, whose completed dip is d: no distance follows from RJB there.
 fn is_above_rupture(r: Request, d: u64) -> bool
-    requires { ⌜ d ≡ dip r .value ⌝ }
+    requires { ⌜ d ≡ sizeOf (dip r) ⌝ }
     ensures { λ a. ⌜ a ≡ aboveRupture r ⌝ }
 {
     let rrup = r.rrup;
@@ -41,7 +41,7 @@ fn is_above_rupture(r: Request, d: u64) -> bool
 
 // The first refusal that reads a given figure of the path.
 fn path_refusal(r: Request, d: u64) -> u32
-    requires { ⌜ d ≡ dip r .value ⌝ }
+    requires { ⌜ d ≡ sizeOf (dip r) ⌝ }
     ensures { λ n. ⌜ n ≡ first (pathGiven r) ⌝ }
 {
     let rjb = r.rjb;
@@ -64,11 +64,11 @@ fn path_refusal(r: Request, d: u64) -> u32
 
 // Whether a given RRUP is too short, even one metre longer, to reach down to the rupture's top z.
 fn is_too_short(r: Request, z: u64) -> bool
-    requires { ⌜ (z ≡ ztor r .value) × (z ≤ 15000) × (sizeOf (r .rjb) ≤ 200000) × (sizeOf (r .rrup) ≤ 200000) ⌝ }
+    requires { ⌜ (z ≡ sizeOf (ztor r)) × (z ≤ 15000) × (sizeOf (r .rjb) ≤ 200000) × (sizeOf (r .rrup) ≤ 200000) ⌝ }
     ensures { λ a. ⌜ a ≡ tooShort r ⌝ }
 {
     let rrup = r.rrup;
-    if is_blank(rrup) {
+    if !is_given(rrup) {
         return false;
     }
     let d = size_of(rrup) + 1;
@@ -77,14 +77,14 @@ fn is_too_short(r: Request, z: u64) -> bool
     d * d < rjb * rjb + z * z
 }
 
-// RRUP of a path whose given figures are in their ranges.
-fn known_path(r: Request, s: Source) -> Figure
+// The length of a path whose given figures are in their ranges: RRUP as it stands, or its estimate.
+fn known_length(r: Request, s: Source) -> u64
     requires { ⌜ (s ≡ sourceFigures r) × (first (sourceRows r) ≡ 0) × (first (pathGiven r) ≡ 0) ⌝ }
-    ensures { λ f. ⌜ f ≡ rrup r ⌝ }
+    ensures { λ d. ⌜ d ≡ sizeOf (rrup r) ⌝ }
 {
-    let field = r.rrup;
-    if let Field::Given(_) = field {
-        return given_figure(field);
+    let rrup = r.rrup;
+    if !is_blank(rrup) {
+        return size_of(rrup);
     }
     let given_azimuth = r.azimuth;
     let azimuth = value_of(given_azimuth);
@@ -93,10 +93,19 @@ fn known_path(r: Request, s: Source) -> Figure
     let dip = s.dip;
     let w = s.w;
     let ztor = s.ztor;
-    Figure {
-        value: rupture_distance(dip.value, azimuth, w.value, ztor.value, rjb),
-        estimated: true,
+    rupture_distance(size_of(dip), azimuth, size_of(w), size_of(ztor), rjb)
+}
+
+// RRUP of a path whose length is d.
+fn known_path(r: Request, d: u64) -> Field
+    requires { ⌜ (d ≡ sizeOf (rrup r)) × (d ≤ 200000) ⌝ }
+    ensures { λ f. ⌜ f ≡ rrup r ⌝ }
+{
+    let rrup = r.rrup;
+    if !is_blank(rrup) {
+        return rrup;
     }
+    estimated_figure(d)
 }
 
 // RRUP, or the first refusal of the path.
@@ -105,17 +114,17 @@ pub fn complete_path(r: Request, s: Source) -> FigureAnswer
     ensures { λ a. ⌜ a ≡ pathAnswerOf r ⌝ }
 {
     let dip = s.dip;
-    let n = path_refusal(r, dip.value);
+    let n = path_refusal(r, size_of(dip));
     if n != 0 {
         return FigureAnswer::Refused(n);
     }
-    let rrup = known_path(r, s);
-    if 200000 < rrup.value {
+    let d = known_length(r, s);
+    if 200000 < d {
         return FigureAnswer::Refused(refusals::RRUP);
     }
     let ztor = s.ztor;
-    if is_too_short(r, ztor.value) {
+    if is_too_short(r, size_of(ztor)) {
         return FigureAnswer::Refused(refusals::TOO_SHORT);
     }
-    FigureAnswer::Known(rrup)
+    FigureAnswer::Known(known_path(r, d))
 }

@@ -5,7 +5,6 @@ use Prim.Native.Nat.{ℕ, _*_, _<_}
 use mathlib.Core.Path.{_≡_, refl, sym, ap, subst}
 use lib.ListN.{length, getD, length-replicate, getD-replicate}
 use Rattle.request.specs.declared.Request.{Request}
-use Rattle.outcome.specs.declared.Completed.{Completed}
 use Rattle.outcome.specs.declared.Completion.the-variants as C
 use Rattle.outcome.specs.Answers.{completionOf, numberOf}
 use Rattle.model.specs.declared.Row.{Row}
@@ -21,14 +20,14 @@ use Rattle.prediction.proofs.RowLaws.{rows-length, row-is, row-small, z
 
 -- ---- accepted
 pub accepted-rows :
-    (r : Request) (c : Completed) (k : ℕ) → completionOf r ≡ C.Done c → k < 24
+    (r : Request) (c : Request) (k : ℕ) → completionOf r ≡ C.Done c → k < 24
     → Accurate (exactOf k (scenarioOf c)) (getD (spectrumOf r .rows) k noRow)
 accepted-rows r c k e h =
     rw (spectrum-done r c e, row-is (scenarioOf c) k h) (demand-3 k (scenarioOf c) h (in-range r c e))
 
 -- the inter-event sigma of each is the exact one
 pub accepted-inter :
-    (r : Request) (c : Completed) (k : ℕ) → completionOf r ≡ C.Done c → k < 24
+    (r : Request) (c : Request) (k : ℕ) → completionOf r ≡ C.Done c → k < 24
     → getD (spectrumOf r .rows) k noRow .inter * E24 ≡ exactOf k (scenarioOf c) .inter
 accepted-inter r c k e h = rw (spectrum-done r c e, row-is (scenarioOf c) k h) (inter-exact k (scenarioOf c))
 
@@ -73,7 +72,7 @@ unfolding shownOf
 shown-near e r a = record { ln-near = a .ln-near; median-near = a .median-near; sigma-near = a .total-near }
 
 pub accepted-shown :
-    (r : Request) (c : Completed) (k : ℕ) → completionOf r ≡ C.Done c → k < 24
+    (r : Request) (c : Request) (k : ℕ) → completionOf r ≡ C.Done c → k < 24
     → ShownAccurate (exactOf k (scenarioOf c)) (getD (shownSpectrumOf r .rows) k noShown)
 accepted-shown r c k e h = rw (shown-at r k) (shown-near (exactOf k (scenarioOf c)) (getD (spectrumOf r .rows) k noRow) (accepted-rows r c k e h))
 

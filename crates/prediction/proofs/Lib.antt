@@ -5,3 +5,4 @@ pub mod ShortPeriods
 pub mod FloatLaws
 pub mod MeasureLaws
 pub mod OneAnswer
+pub mod Origins

@@ -12,7 +12,6 @@ use lib.ListN.{getD}
 use borrow.Author.Tests.{lt-ltb, le-ltb, ltb-true, ltb-false}
 use Rattle.refusals.specs.Order as No
 use Rattle.request.specs.declared.Request.{Request}
-use Rattle.outcome.specs.declared.Completed.{Completed}
 use Rattle.outcome.specs.declared.Completion.the-variants as C
 use Rattle.outcome.specs.Refusals.{rows, refusal}
 use Rattle.outcome.specs.Answers.{completed, completionOf}
@@ -37,19 +36,19 @@ pub measure-refused : (r : Request) (n k : ℕ) → completionOf r ≡ C.Refused
 unfolding measureOf measureFor
 measure-refused r n k e = rw e
 
-pub measure-none : (r : Request) (c : Completed) (k : ℕ) → completionOf r ≡ C.Done c → measures ≤ k → measureOf r k ≡ M.Refused No.noMeasure
+pub measure-none : (r : Request) (c : Request) (k : ℕ) → completionOf r ≡ C.Done c → measures ≤ k → measureOf r k ≡ M.Refused No.noMeasure
 unfolding measureOf measureFor
 measure-none r c k e h = rw (e, le-ltb k measures h)
 
 pub measure-fixed :
-    (r : Request) (c : Completed) (k : ℕ) → completionOf r ≡ C.Done c → k < measures
+    (r : Request) (c : Request) (k : ℕ) → completionOf r ≡ C.Done c → k < measures
     → measureOf r k ≡ shownValue (shownOf (rowFixed k (scenarioOf c)))
 unfolding measureOf measureFor
 measure-fixed r c k e h = rw (e, lt-ltb k measures h)
 
 -- the spectrum's row
 pub measure-row :
-    (r : Request) (c : Completed) (k : ℕ) → completionOf r ≡ C.Done c → k < measures
+    (r : Request) (c : Request) (k : ℕ) → completionOf r ≡ C.Done c → k < measures
     → measureOf r k ≡ shownValue (shownOf (getD (spectrumOf r .rows) k noRow))
 measure-row r c k e h =
     measure-fixed r c k e h
@@ -57,7 +56,7 @@ measure-row r c k e h =
 
 -- and nothing of it is lost
 pub measure-whole :
-    (r : Request) (c : Completed) (k : ℕ) → completionOf r ≡ C.Done c → k < measures
+    (r : Request) (c : Request) (k : ℕ) → completionOf r ≡ C.Done c → k < measures
     → Tells (shownOf (getD (spectrumOf r .rows) k noRow)) (measureOf r k)
 unfolding shownValue
 measure-whole r c k e h =
@@ -71,7 +70,7 @@ near-told : (e : Exact) (s : Shown) (a : OneMeasure) → ShownAccurate e s → T
 near-told e s (M.Value y z) n (told f g) = measure-near (s .median) (s .sigma) f g (n .median-near) (n .sigma-near)
 
 pub accepted-measure :
-    (r : Request) (c : Completed) (k : ℕ) → completionOf r ≡ C.Done c → k < measures
+    (r : Request) (c : Request) (k : ℕ) → completionOf r ≡ C.Done c → k < measures
     → MeasureNear (exactOf k (scenarioOf c)) (measureOf r k)
 accepted-measure r c k e h =
     let row = getD (spectrumOf r .rows) k noRow in
@@ -90,7 +89,7 @@ pub no-measure-exactly : (r : Request) (k : ℕ) → (measureOf r k ≡ M.Refuse
 no-measure-exactly r k = (there, λ p. measure-none r (completed r) k (accepted-by r (p .0)) (p .1))
   where
     by-number :
-        (c : Completed) → completionOf r ≡ C.Done c → measureOf r k ≡ M.Refused No.noMeasure → (t : Bool) → ltb k measures ≡ t
+        (c : Request) → completionOf r ≡ C.Done c → measureOf r k ≡ M.Refused No.noMeasure → (t : Bool) → ltb k measures ≡ t
         → measures ≤ k
     by-number c e h false u = ltb-false k measures u
     by-number c e h true u =

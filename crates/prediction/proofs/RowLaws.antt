@@ -8,7 +8,6 @@ use lib.Dec.{lit≤}
 use lib.ListN.{length, getD, length-map, List·getD-map}
 use lib.Seq.{ext-getD}
 use Rattle.request.specs.declared.Request.{Request}
-use Rattle.outcome.specs.declared.Completed.{Completed}
 use Rattle.outcome.specs.declared.Completion.{Completion}
 use Rattle.outcome.specs.declared.Completion.the-variants as C
 use Rattle.outcome.specs.Answers.{completionOf, numberOf}
@@ -63,7 +62,7 @@ rows-are x rows e h =
     (λ i l. let k : i < 24 = omega (arith, e) in h i k ∙ sym (row-is x i k))
 
 -- ---- a spectrum by the completion's case
-pub spectrum-done : (r : Request) (c : Completed) → completionOf r ≡ C.Done c → spectrumOf r .rows ≡ rowsOf (scenarioOf c)
+pub spectrum-done : (r : Request) (c : Request) → completionOf r ≡ C.Done c → spectrumOf r .rows ≡ rowsOf (scenarioOf c)
 unfolding spectrumOf spectrumFor
 spectrum-done r c e = rw e
 
@@ -73,7 +72,7 @@ spectrum-refused r n e = rw e
 
 -- the two cases of any request
 pub by-completion :
-    {P : Type 0} (r : Request) → ((c : Completed) → completionOf r ≡ C.Done c → P) → ((n : ℕ) → completionOf r ≡ C.Refused n → P) → P
+    {P : Type 0} (r : Request) → ((c : Request) → completionOf r ≡ C.Done c → P) → ((n : ℕ) → completionOf r ≡ C.Refused n → P) → P
 by-completion {P} r f g = go (completionOf r) refl
   where
     go : (a : Completion) → completionOf r ≡ a → P

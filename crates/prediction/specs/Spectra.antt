@@ -3,8 +3,8 @@ use Prim.Native.Nat.{ℕ, zero, suc, _+_}
 use mathlib.Core.List.{List, [], _∷_, map}
 use lib.ListN.{replicate}
 use Rattle.request.specs.declared.Request.{Request}
+use Rattle.request.specs.Fields.{valueOf, sizeOf}
 use Rattle.request.specs.Styles.{styleOf}
-use Rattle.outcome.specs.declared.Completed.{Completed}
 use Rattle.outcome.specs.declared.Completion.{Completion}
 use Rattle.outcome.specs.declared.Completion.the-variants as C
 use Rattle.outcome.specs.Answers.{completionOf}
@@ -16,19 +16,19 @@ use Rattle.model.specs.Rows.{shownOf, noRow}
 use Rattle.prediction.specs.declared.Spectrum.{Spectrum}
 use Rattle.prediction.specs.declared.shown.ShownSpectrum.{ShownSpectrum}
 
--- what the model reads of a completed request
-unfoldable pub scenarioOf : Completed → Scenario
-unfolding styleOf
+-- what the model reads of a completed request: numbers, whatever their origins
+unfoldable pub scenarioOf : Request → Scenario
+unfolding styleOf valueOf sizeOf
 scenarioOf c =
     record {
-      m = c .m;
-      style = styleOf (c .rake);
-      vs30 = c .vs30;
-      dip = c .dip .value;
-      ztor = c .ztor .value;
-      rjb = c .rjb;
-      rrup = c .rrup .value;
-      z25 = c .z25 .value;
+      m = sizeOf (c .m);
+      style = styleOf (valueOf (c .rake));
+      vs30 = sizeOf (c .vs30);
+      dip = sizeOf (c .dip);
+      ztor = sizeOf (c .ztor);
+      rjb = sizeOf (c .rjb);
+      rrup = sizeOf (c .rrup);
+      z25 = sizeOf (c .z25);
     }
 
 -- n rows from measure k on

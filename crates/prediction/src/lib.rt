@@ -4,7 +4,6 @@ mod floats;
 mod measure;
 mod shown;
 
-use completion::Completed;
 use completion::Completion;
 use completion::complete;
 use completion::number_of;
@@ -18,7 +17,8 @@ use model::Row;
 use model::Scenario;
 use reports::rows_of;
 use request::Request;
-use request::style_of;
+use request::size_of;
+use request::style_by_rake;
 pub use shown::ShownSpectrum;
 pub use shown::predict_shown;
 use tables::MEASURES;
@@ -31,24 +31,27 @@ pub struct Spectrum {
     pub rows: [Row; MEASURES],
 }
 
-// The completed figures that the model reads.
-pub fn scenario_of(c: Completed) -> Scenario
+// The figures of a completed request that the model reads, whatever their origins.
+pub fn scenario_of(c: Request) -> Scenario
     ensures { λ r. ⌜ r ≡ scenarioOf c ⌝ }
 {
+    let m = c.m;
     let rake = c.rake;
+    let vs30 = c.vs30;
     let dip = c.dip;
     let ztor = c.ztor;
+    let rjb = c.rjb;
     let rrup = c.rrup;
     let z25 = c.z25;
     Scenario {
-        m: c.m,
-        style: style_of(rake),
-        vs30: c.vs30,
-        dip: dip.value,
-        ztor: ztor.value,
-        rjb: c.rjb,
-        rrup: rrup.value,
-        z25: z25.value,
+        m: size_of(m),
+        style: style_by_rake(rake),
+        vs30: size_of(vs30),
+        dip: size_of(dip),
+        ztor: size_of(ztor),
+        rjb: size_of(rjb),
+        rrup: size_of(rrup),
+        z25: size_of(z25),
     }
 }
 

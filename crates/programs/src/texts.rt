@@ -44,8 +44,8 @@ fn put_answers_help(program: Program) -> bool {
             Reads request lines from standard input and writes to standard output a\n\
             header, \"dip W ZTOR RRUP Z25 from\", then a line for each request: \"ok\", the\n\
             dip in degrees, W, ZTOR, RRUP and Z2.5 in metres, and a letter for each of the\n\
-            five, g where it was given, e where it was estimated; or \"no\" and the number of\n\
-            the refusal.\n",
+            five, m where it was measured, i where the caller inferred it, e where it was\n\
+            estimated; or \"no\" and the number of the refusal.\n",
         ),
         Program::Predict => put_out(
             b"usage: predict [--period T] < LIST > ANSWERS\n\
@@ -76,7 +76,8 @@ fn put_request_help() -> bool {
     put_out(
         b"\n\
         A request is a line of thirteen fields with single spaces, whole numbers all. A\n\
-        star marks a field that may be blank, written \"-\":\n\
+        \"~\" before a number and its sign says that it was inferred, say from a map, and\n\
+        not measured. A star marks a field that may be blank, written \"-\":\n\
         \x20 M        hundredths of magnitude, 400 to 850, 800 or 750 by the style of fault\n\
         \x20 rake     degrees, -180 to 180\n\
         \x20 Vs30     m/s, 150 to 1500: the soil's speed\n\
@@ -105,7 +106,7 @@ fn put_example(program: Program) -> bool {
     match program {
         Program::Complete => put_out(
             b"gets\n\
-            \x20 ok 90 10000 3000 5000 2000 eggeg\n",
+            \x20 ok 90 10000 3000 5000 2000 emmem\n",
         ),
         Program::Predict => put_out(
             b"gets 24 lines, of which that of PGA is\n\

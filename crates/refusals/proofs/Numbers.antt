@@ -1,10 +1,9 @@
--- The refusals' numbers are 1 to as many as there are, each once. Assumes nothing.
+-- The refusals' numbers lie from 1 to that of a figure already marked as ours, each once. Assumes nothing.
 use lib.Dec.{T}
-use lib.ListN.{length}
-use Rattle.refusals.specs.Order.{order, apart, upTo}
+use Rattle.refusals.specs.Order.{marked, order, apart, upTo}
 
 pub numbers-apart : T (apart order)
 numbers-apart = tt
 
-pub numbers-whole : T (upTo (length order) order)
-numbers-whole = tt
+pub numbers-within : T (upTo marked order)
+numbers-within = tt

@@ -10,6 +10,10 @@ use lib.Dec.{T, leb, eqb}
 abbrev pub malformed : ℕ
 malformed = 14
 
+-- a figure is already marked as estimated by us
+abbrev pub marked : ℕ
+marked = 26
+
 abbrev pub rake : ℕ
 rake = 1
 
@@ -71,6 +75,7 @@ tooLong = 16
 abbrev pub order : List ℕ
 order =
     malformed
+    ∷ marked
     ∷ rake
     ∷ magnitude
     ∷ vs30

@@ -5,6 +5,9 @@
 // The line cannot be read.
 pub const MALFORMED: u32 = 14;
 
+// A figure is already marked as estimated by us.
+pub const MARKED: u32 = 26;
+
 // The rake.
 pub const RAKE: u32 = 1;
 

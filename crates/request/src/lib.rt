@@ -1,13 +1,16 @@
-// A request: thirteen fields, each given with its number or blank, and the tests that look at one
-// field alone. Nothing here knows an estimate or the model.
+// A request: thirteen fields, each with its number and where that came from, or blank; and the tests that
+// look at one field alone. A completed request is the same record. Nothing here knows an estimate's rule or
+// the model.
 ghost use mathlib.Core.Path.{_≡_};
 ghost use lib.IntN.{ℤ, pos};
-ghost use Rattle.request.specs.Fields.{within, allowed, isBlank, sizeOf, valueOf};
+ghost use Rattle.request.specs.Fields.{isGiven, isEstimated, isBlank, valueOf, sizeOf, within, allowed, marked};
 ghost use Rattle.request.specs.Styles.{styleOf, topMagnitude};
 
-// One figure of a request.
+// One figure of a request: measured, inferred by the caller, estimated by us, or blank.
 pub enum Field {
-    Given(i64),
+    Measured(i64),
+    Inferred(i64),
+    Estimated(i64),
     Blank,
 }
 
@@ -36,57 +39,110 @@ pub enum Style {
     Normal,
 }
 
+// Whether the caller gave the field, measured or inferred.
+pub fn is_given(f: Field) -> bool
+    ensures { λ r. ⌜ r ≡ isGiven f ⌝ }
+{
+    match f {
+        Field::Measured(_) => true,
+        Field::Inferred(_) => true,
+        Field::Estimated(_) => false,
+        Field::Blank => false,
+    }
+}
+
+// Whether the field is marked as estimated by us.
+pub fn is_estimated(f: Field) -> bool
+    ensures { λ r. ⌜ r ≡ isEstimated f ⌝ }
+{
+    match f {
+        Field::Measured(_) => false,
+        Field::Inferred(_) => false,
+        Field::Estimated(_) => true,
+        Field::Blank => false,
+    }
+}
+
+// Whether the field is blank: neither given nor estimated.
+pub fn is_blank(f: Field) -> bool
+    ensures { λ r. ⌜ r ≡ isBlank f ⌝ }
+{
+    !(is_given(f) | is_estimated(f))
+}
+
+// The field's number, or 0.
+pub fn value_of(f: Field) -> i64
+    ensures { λ r. ⌜ r ≡ valueOf f ⌝ }
+{
+    match f {
+        Field::Measured(v) => v,
+        Field::Inferred(v) => v,
+        Field::Estimated(v) => v,
+        Field::Blank => 0,
+    }
+}
+
+// Its size.
+pub fn size_of(f: Field) -> u64
+    ensures { λ r. ⌜ r ≡ sizeOf f ⌝ }
+{
+    sizes::size_of(value_of(f))
+}
+
 // Whether the field is given and lies from low to high, both ends included.
 pub fn is_within(f: Field, low: i64, high: i64) -> bool
     ensures { λ r. ⌜ r ≡ within f low high ⌝ }
 {
-    let Field::Given(v) = f else {
+    if !is_given(f) {
         return false;
-    };
+    }
+    let v = value_of(f);
     if v < low {
         return false;
     }
     v <= high
 }
 
-// Whether the field is blank, or lies from low to high.
+// Whether the field is blank, or is given and lies from low to high.
 pub fn is_allowed(f: Field, low: i64, high: i64) -> bool
     ensures { λ r. ⌜ r ≡ allowed f low high ⌝ }
 {
-    if let Field::Blank = f {
+    if is_blank(f) {
         return true;
     }
     is_within(f, low, high)
 }
 
-// Whether the field is blank.
-pub fn is_blank(f: Field) -> bool
-    ensures { λ r. ⌜ r ≡ isBlank f ⌝ }
+// Whether any field is marked as estimated by us.
+pub fn is_marked(r: Request) -> bool
+    ensures { λ a. ⌜ a ≡ marked r ⌝ }
 {
-    match f {
-        Field::Given(_) => false,
-        Field::Blank => true,
-    }
-}
-
-// The number given, or 0.
-pub fn value_of(f: Field) -> i64
-    ensures { λ r. ⌜ r ≡ valueOf f ⌝ }
-{
-    match f {
-        Field::Given(v) => v,
-        Field::Blank => 0,
-    }
-}
-
-// The size of the number given, or 0.
-pub fn size_of(f: Field) -> u64
-    ensures { λ r. ⌜ r ≡ sizeOf f ⌝ }
-{
-    let Field::Given(v) = f else {
-        return 0;
-    };
-    sizes::size_of(v)
+    let m = r.m;
+    let rake = r.rake;
+    let vs30 = r.vs30;
+    let dip = r.dip;
+    let w = r.w;
+    let zhyp = r.zhyp;
+    let ztor = r.ztor;
+    let rjb = r.rjb;
+    let azimuth = r.azimuth;
+    let rrup = r.rrup;
+    let z10 = r.z10;
+    let z15 = r.z15;
+    let z25 = r.z25;
+    is_estimated(m)
+        | is_estimated(rake)
+        | is_estimated(vs30)
+        | is_estimated(dip)
+        | is_estimated(w)
+        | is_estimated(zhyp)
+        | is_estimated(ztor)
+        | is_estimated(rjb)
+        | is_estimated(azimuth)
+        | is_estimated(rrup)
+        | is_estimated(z10)
+        | is_estimated(z15)
+        | is_estimated(z25)
 }
 
 // The style that a rake stands for: both ranges are open.
@@ -106,10 +162,7 @@ pub fn style_of(rake: i64) -> Style
 pub fn style_by_rake(f: Field) -> Style
     ensures { λ r. ⌜ r ≡ styleOf (valueOf f) ⌝ }
 {
-    let Field::Given(rake) = f else {
-        return Style::StrikeSlip;
-    };
-    style_of(rake)
+    style_of(value_of(f))
 }
 
 // Whether the magnitude, in hundredths, is given and lies in the range of its style.

@@ -9,7 +9,6 @@ use lib.ListN.{length}
 use lib.Ieee.{Float}
 use Rattle.refusals.specs.Order as No
 use Rattle.request.specs.declared.Request.{Request}
-use Rattle.outcome.specs.declared.Completed.{Completed}
 use Rattle.outcome.specs.declared.Completion.the-variants as C
 use Rattle.outcome.specs.Answers.{completionOf, numberOf}
 use Rattle.outcome.proofs.ExactlyWhen.{number-is, accepted-by}
@@ -67,7 +66,7 @@ request-not-0 r t h =
     by-completion r (λ c e. by-test c e (covered t) refl)
     (λ n e. never-0 r (e ∙ ap C.Refused (same-number n 0 (sym (ap floatPeriod (period-refused r n t e)) ∙ h))))
   where
-    by-test : (c : Completed) → completionOf r ≡ C.Done c → (b : Bool) → covered t ≡ b → ⊥
+    by-test : (c : Request) → completionOf r ≡ C.Done c → (b : Bool) → covered t ≡ b → ⊥
     by-test c e true u = no-value _ 0 (sym (ap floatPeriod (period-row r c t e u)) ∙ h)
     by-test c e false u = let z = same-number No.noPeriod 0 (sym (ap floatPeriod (period-none r c t e u)) ∙ h) in omega arith
 

@@ -2,12 +2,13 @@
 use estimate::basin_from_vs30;
 use estimate::basin_from_z10;
 use estimate::basin_from_z15;
-use outcome::Figure;
 use outcome::FigureAnswer;
-use outcome::given_figure;
+use outcome::estimated_figure;
 use request::Field;
 use request::Request;
 use request::is_allowed;
+use request::is_blank;
+use request::is_given;
 use request::size_of;
 ghost use mathlib.Core.Path.{_≡_};
 ghost use Prim.Native.Nat.{_≤_};
@@ -41,31 +42,28 @@ fn basin_estimate(z15: Field, z10: Field, vs30: u64) -> u64
     requires { ⌜ (sizeOf z15 ≤ 10000) × (sizeOf z10 ≤ 10000) × (150 ≤ vs30) × (vs30 ≤ 1500) ⌝ }
     ensures { λ z. ⌜ z ≡ basinOf z15 z10 vs30 ⌝ }
 {
-    if let Field::Given(_) = z15 {
+    if is_given(z15) {
         return basin_from_z15(size_of(z15));
     }
-    if let Field::Given(_) = z10 {
+    if is_given(z10) {
         return basin_from_z10(size_of(z10));
     }
     basin_from_vs30(vs30)
 }
 
 // Z2.5 of a site whose given depths are in their ranges.
-fn known_site(r: Request) -> Figure
+fn known_site(r: Request) -> Field
     requires { ⌜ (first (sourceRows r) ≡ 0) × (first (siteGiven r) ≡ 0) ⌝ }
     ensures { λ f. ⌜ f ≡ z25 r ⌝ }
 {
     let field = r.z25;
-    if let Field::Given(_) = field {
-        return given_figure(field);
+    if !is_blank(field) {
+        return field;
     }
     let z15 = r.z15;
     let z10 = r.z10;
     let vs30 = r.vs30;
-    Figure {
-        value: basin_estimate(z15, z10, size_of(vs30)),
-        estimated: true,
-    }
+    estimated_figure(basin_estimate(z15, z10, size_of(vs30)))
 }
 
 // Z2.5, or the refusal of the basin.
@@ -78,7 +76,7 @@ pub fn complete_site(r: Request) -> FigureAnswer
         return FigureAnswer::Refused(n);
     }
     let z25 = known_site(r);
-    if 10000 < z25.value {
+    if 10000 < size_of(z25) {
         return FigureAnswer::Refused(refusals::BASIN);
     }
     FigureAnswer::Known(z25)

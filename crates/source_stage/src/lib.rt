@@ -3,24 +3,24 @@ use estimate::dip_estimate;
 use estimate::hypocentre_estimate;
 use estimate::top_estimate;
 use estimate::width_estimate;
-use outcome::Figure;
 use outcome::Source;
 use outcome::SourceAnswer;
-use outcome::given_figure;
+use outcome::estimated_figure;
 use request::Field;
 use request::Request;
 use request::Style;
 use request::is_allowed;
+use request::is_blank;
 use request::is_magnitude;
 use request::is_within;
 use request::size_of;
 use request::style_by_rake;
 ghost use mathlib.Core.Path.{_≡_};
-ghost use Prim.Native.Nat.{_*_, _≤_, _<_};
+ghost use Prim.Native.Nat.{_/_, _≤_};
 ghost use Rattle.request.specs.Fields.{sizeOf};
 ghost use Rattle.rules.specs.Rules.{dipOf};
 ghost use Rattle.rules.specs.Fixed.{widthFixed, topFixed};
-ghost use Rattle.outcome.specs.Figures.{figureOf, zhypOf};
+ghost use Rattle.outcome.specs.Figures.{orEstimate, tenthsOf};
 ghost use Rattle.refusals.specs.Order.{first};
 ghost use Rattle.outcome.specs.Refusals.{sourceGiven};
 ghost use Rattle.outcome.specs.Stages.{sourceFigures, sourceAnswerOf};
@@ -60,53 +60,54 @@ fn source_refusal(r: Request) -> u32
     0
 }
 
-fn complete_dip(f: Field, s: Style) -> Figure
-    ensures { λ r. ⌜ r ≡ figureOf f (dipOf s) ⌝ }
+fn complete_dip(f: Field, s: Style) -> Field
+    ensures { λ r. ⌜ r ≡ orEstimate f (dipOf s) ⌝ }
 {
-    if let Field::Given(_) = f {
-        return given_figure(f);
+    if !is_blank(f) {
+        return f;
     }
-    Figure {
-        value: dip_estimate(s),
-        estimated: true,
-    }
+    estimated_figure(dip_estimate(s))
 }
 
-fn complete_width(f: Field, s: Style, m: u64) -> Figure
+fn complete_width(f: Field, s: Style, m: u64) -> Field
     requires { ⌜ (400 ≤ m) × (m ≤ 850) ⌝ }
-    ensures { λ r. ⌜ r ≡ figureOf f (widthFixed s m) ⌝ }
+    ensures { λ r. ⌜ r ≡ orEstimate f (widthFixed s m) ⌝ }
 {
-    if let Field::Given(_) = f {
-        return given_figure(f);
+    if !is_blank(f) {
+        return f;
     }
-    Figure {
-        value: width_estimate(s, m),
-        estimated: true,
-    }
+    estimated_figure(width_estimate(s, m))
 }
 
-// In tenths of a metre.
-fn complete_hypocentre(f: Field, s: Style, m: u64) -> u64
+// The depth of the hypocentre in tenths of a metre, as the top of the rupture reads it.
+fn hypocentre_tenths(f: Field, s: Style, m: u64) -> u64
     requires { ⌜ (400 ≤ m) × (m ≤ 850) × (sizeOf f ≤ 30000) ⌝ }
-    ensures { λ r. ⌜ r ≡ zhypOf f s m ⌝ }
+    ensures { λ r. ⌜ r ≡ tenthsOf f s m ⌝ }
 {
-    if let Field::Given(_) = f {
+    if !is_blank(f) {
         return 10 * size_of(f);
     }
     hypocentre_estimate(s, m)
 }
 
-fn complete_top(f: Field, zhyp: u64, w: u64, dip: u64) -> Figure
-    requires { ⌜ (zhyp ≤ 300000) × (w ≤ 100000) × (dip ≤ 90) ⌝ }
-    ensures { λ r. ⌜ r ≡ figureOf f (topFixed zhyp w dip) ⌝ }
+// The same in whole metres, the tenth cut off where it is estimated.
+fn complete_hypocentre(f: Field, tenths: u64) -> Field
+    ensures { λ r. ⌜ r ≡ orEstimate f (tenths / 10) ⌝ }
 {
-    if let Field::Given(_) = f {
-        return given_figure(f);
+    if !is_blank(f) {
+        return f;
     }
-    Figure {
-        value: top_estimate(zhyp, w, dip),
-        estimated: true,
+    estimated_figure(tenths / 10)
+}
+
+fn complete_top(f: Field, tenths: u64, w: u64, dip: u64) -> Field
+    requires { ⌜ (tenths ≤ 300000) × (w ≤ 100000) × (dip ≤ 90) ⌝ }
+    ensures { λ r. ⌜ r ≡ orEstimate f (topFixed tenths w dip) ⌝ }
+{
+    if !is_blank(f) {
+        return f;
     }
+    estimated_figure(top_estimate(tenths, w, dip))
 }
 
 // The figures of a source whose given ones are in their ranges.
@@ -123,12 +124,14 @@ fn known_source(r: Request) -> Source
     let given_width = r.w;
     let w = complete_width(given_width, style, m);
     let given_hypocentre = r.zhyp;
-    let zhyp = complete_hypocentre(given_hypocentre, style, m);
+    let tenths = hypocentre_tenths(given_hypocentre, style, m);
+    let zhyp = complete_hypocentre(given_hypocentre, tenths);
     let given_top = r.ztor;
-    let ztor = complete_top(given_top, zhyp, w.value, dip.value);
+    let ztor = complete_top(given_top, tenths, size_of(w), size_of(dip));
     Source {
         dip: dip,
         w: w,
+        zhyp: zhyp,
         ztor: ztor,
     }
 }
@@ -143,7 +146,7 @@ pub fn complete_source(r: Request) -> SourceAnswer
     }
     let s = known_source(r);
     let ztor = s.ztor;
-    if 15000 < ztor.value {
+    if 15000 < size_of(ztor) {
         return SourceAnswer::Refused(refusals::TOP);
     }
     SourceAnswer::Known(s)

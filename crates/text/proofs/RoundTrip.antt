@@ -1,6 +1,6 @@
 -- What was written, read back: a number's digits stand for the number, whatever its size; a figure that the grammar allows, written and read
--- as a field, is given as that figure; and no rendered number has a space in it. Each law of digits goes from a number's tenth to the number.
--- Assumes nothing.
+-- as a field, is measured as that figure, and inferred as it with a "~" before it; and no rendered number has a space in it. Each law of
+-- digits goes from a number's tenth to the number. Assumes nothing.
 use Prim.Native.Nat.{ℕ, suc, _+_, _-_, _*_, _/_, _%_, _≤_, _<_}
 use mathlib.Core.Path.{_≡_, refl, ap, _∙_}
 use mathlib.Core.Bool.{Bool, true, false, _&&_, cond, and-false}
@@ -11,15 +11,15 @@ use lib.Dec.{eqb}
 use lib.IntN.{ℤ, pos, negsuc, natAbs}
 use lib.ListN.{length, getD, length-append, List·getD-append}
 use lib.Signed.{ltZ}
-use Rattle.request.specs.declared.Field.the-variants.{Given}
+use Rattle.request.specs.declared.Field.the-variants.{Measured, Inferred}
 use Rattle.text.specs.declared.figures.Number.the-variants as N
 use Rattle.text.specs.declared.figures.Signed.the-variants as S
 use Rattle.text.specs.declared.figures.Word.the-variants as W
 use Rattle.numerals.specs.Render.{space, minus, digit0, digit9, render, renderSigned}
 use Rattle.numerals.specs.Plain.{isDigit}
-use Rattle.text.specs.Grammar.{digitsOf, unsignedOf, plain, negative, signedOf, asWord, fieldOf, spaceAt}
+use Rattle.text.specs.Grammar.{tilde, digitsOf, unsignedOf, plain, negative, signedOf, asWord, fieldOf, spaceAt}
 use Rattle.text.specs.ReadBack.{signedBack}
-use Rattle.text.proofs.FigureLaws.{minus-taken, no-minus}
+use Rattle.text.proofs.FigureLaws.{minus-taken, no-minus, tilde-taken, no-tilde}
 use Rattle.numerals.proofs.RenderLaws.{by-tenths, render-one, render-more, length-render, some-digit, no-zero-more}
 
 -- ---- the digits of any number
@@ -54,9 +54,11 @@ digits-back =
 first-of-more : (n : ℕ) → 10 ≤ n → getD (render n) 0 0 ≡ getD (render (n / 10)) 0 0
 first-of-more n h = rw (render-more n h) (List·getD-append (render (n / 10)) ((digit0 + n % 10) ∷ []) 0 0 (some-digit (n / 10)))
 
-pub first-digit : (n : ℕ) → digit0 ≤ getD (render n) 0 0
+pub first-digit : (n : ℕ) → (digit0 ≤ getD (render n) 0 0) × (getD (render n) 0 0 ≤ digit9)
 first-digit =
-    by-tenths (λ n. digit0 ≤ getD (render n) 0 0) (λ n h. rw (render-one n h) (omega arith)) (λ n h ih. omega (arith, first-of-more n h))
+    by-tenths (λ n. (digit0 ≤ getD (render n) 0 0) × (getD (render n) 0 0 ≤ digit9))
+    (λ n h. rw (render-one n h) (omega arith))
+    (λ n h ih. omega (arith, first-of-more n h))
 
 -- ---- as a field
 -- a number that the grammar allows
@@ -84,10 +86,21 @@ unfolding renderSigned
 not-blank (pos n) = rw (ne-eqb (getD (render n) 0 0) minus (λ e. omega (arith, first-digit n))) (and-false (eqb (length (render n)) 1))
 not-blank (negsuc n) = rw (ne-eqb (suc (length (render (suc n)))) 1 (λ e. omega (arith, some-digit (suc n))))
 
--- and so given as it was
-pub field-back : (signed : Bool) (z : ℤ) → natAbs z < 1000000 → (ltZ z (pos 0) ≡ true → signed ≡ true) → fieldOf signed (renderSigned z) ≡ W.Is (Given z)
-unfolding fieldOf asWord
-field-back signed z h k = rw (not-blank z, figure-back signed z h k)
+-- nor inferred
+not-inferred : (z : ℤ) → getD (renderSigned z) 0 0 ≡ tilde → ⊥
+unfolding renderSigned
+not-inferred (pos n) e = omega (arith, first-digit n)
+not-inferred (negsuc n) e = omega arith
+
+-- and so measured as it was, and inferred as it was with a "~" before it
+module _ (signed : Bool) (z : ℤ) (h : natAbs z < 1000000) (k : ltZ z (pos 0) ≡ true → signed ≡ true) where
+  pub field-back : fieldOf signed (renderSigned z) ≡ W.Is (Measured z)
+  unfolding asWord
+  field-back = no-tilde signed (renderSigned z) (not-blank z) (not-inferred z) ∙ ap (asWord Measured) (figure-back signed z h k)
+
+  pub inferred-back : fieldOf signed (tilde ∷ renderSigned z) ≡ W.Is (Inferred z)
+  unfolding asWord
+  inferred-back = tilde-taken signed (tilde ∷ renderSigned z) refl ∙ ap (asWord Inferred) (figure-back signed z h k)
 
 -- ---- a figure of any size
 pub signed-back : (z : ℤ) → signedBack (renderSigned z) ≡ S.Is z
@@ -127,3 +140,7 @@ pub signed-no-space : (z : ℤ) → spaceAt (renderSigned z) ≡ length (renderS
 unfolding renderSigned spaceAt
 signed-no-space (pos n) = number-no-space n
 signed-no-space (negsuc n) = ap suc (number-no-space (suc n))
+
+pub inferred-no-space : (z : ℤ) → spaceAt (tilde ∷ renderSigned z) ≡ length (tilde ∷ renderSigned z)
+unfolding spaceAt
+inferred-no-space z = ap suc (signed-no-space z)

@@ -5,11 +5,11 @@ use mathlib.Core.Bool.{Bool, cond, _&&_, _||_}
 use mathlib.Core.List.{List, [], _∷_}
 use mathlib.Core.Option.{Option, none, some}
 use lib.Dec.{ltb, eqb}
-use lib.IntN.{pos, negsuc}
+use lib.IntN.{ℤ, pos, negsuc}
 use lib.ListN.{length, getD, take, drop}
 use Rattle.refusals.specs.Order as No
 use Rattle.request.specs.declared.Field.{Field}
-use Rattle.request.specs.declared.Field.the-variants.{Given, Blank}
+use Rattle.request.specs.declared.Field.the-variants.{Measured, Inferred, Blank}
 use Rattle.request.specs.declared.Request.{Request}
 use Rattle.numerals.specs.Render.{space, minus, digit0}
 use Rattle.numerals.specs.Plain.{isDigit}
@@ -23,6 +23,10 @@ use Rattle.text.specs.declared.read.Line.{Line}
 use Rattle.text.specs.declared.read.Line.the-variants as L
 
 -- ---- one field
+-- the byte "~", which stands directly before an inferred figure
+abbrev pub tilde : ℕ
+tilde = 126
+
 -- the number that digits stand for, after those that make n
 unfoldable pub digitsOf : ℕ → List ℕ → Number
 digitsOf n [] = N.Is n
@@ -48,19 +52,21 @@ negative N.Malformed = S.Malformed
 unfoldable pub signedOf : Bool → List ℕ → Signed
 signedOf signed s = cond (eqb (getD s 0 0) minus) (cond signed (negative (unsignedOf (drop 1 s))) S.Malformed) (plain (unsignedOf s))
 
--- such a number is given
-unfoldable pub asWord : Signed → Word
-asWord (S.Is v) = W.Is (Given v)
-asWord S.Malformed = W.Malformed
+-- such a number as a field, by where it came from
+unfoldable pub asWord : (ℤ → Field) → Signed → Word
+asWord origin (S.Is v) = W.Is (origin v)
+asWord origin S.Malformed = W.Malformed
 
--- blank is one "-"
+-- blank is one "-"; a figure is inferred with a "~" before it and its sign, and measured without; an estimated one cannot be written
 unfoldable pub fieldOf : Bool → List ℕ → Word
-fieldOf signed s = cond (eqb (length s) 1 && eqb (getD s 0 0) minus) (W.Is Blank) (asWord (signedOf signed s))
+fieldOf signed s =
+    cond (eqb (length s) 1 && eqb (getD s 0 0) minus) (W.Is Blank)
+    (cond (eqb (getD s 0 0) tilde) (asWord Inferred (signedOf signed (drop 1 s))) (asWord Measured (signedOf signed s)))
 
 -- ---- the line
 -- the most bytes that a line has before its LF
 abbrev pub longest : ℕ
-longest = 100
+longest = 115
 
 -- the place of the first space, or the length where there is none
 unfoldable pub spaceAt : List ℕ → ℕ
@@ -87,7 +93,7 @@ fieldsOf (suc n) k s =
 
 -- field k of thirteen; past the last stands a default that is never read
 abbrev pub fieldAt : List Field → ℕ → Field
-fieldAt f k = getD f k (Given (pos 0))
+fieldAt f k = getD f k (Measured (pos 0))
 
 -- thirteen fields in document 01's order
 unfoldable pub requestOf : List Field → Request

@@ -88,17 +88,27 @@ fn read_signed(s: &[u8], signed: bool) -> Signed
     }
 }
 
-// One field: a figure, or one "-" for blank.
+// One field: one "-" for blank, or a figure. A "~" directly before the figure says that it was inferred,
+// and it was measured where none stands there. No text says that a figure was estimated.
 pub fn read_field(s: &[u8], signed: bool) -> Word
     ensures { λ r. ⌜ r ≡ fieldOf signed (now (s .entry)) ⌝ }
 {
+    if s.len() == 0 {
+        return Word::Malformed;
+    }
     if s.len() == 1 {
         if s[0] == b'-' {
             return Word::Is(Field::Blank);
         }
     }
+    if s[0] == b'~' {
+        return match read_signed(&s[1..], signed) {
+            Signed::Is(v) => Word::Is(Field::Inferred(v)),
+            Signed::Malformed => Word::Malformed,
+        };
+    }
     match read_signed(s, signed) {
-        Signed::Is(v) => Word::Is(Field::Given(v)),
+        Signed::Is(v) => Word::Is(Field::Measured(v)),
         Signed::Malformed => Word::Malformed,
     }
 }

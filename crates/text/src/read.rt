@@ -9,7 +9,7 @@ ghost use lib.ListN.{length, drop};
 ghost use Rattle.text.specs.Grammar.{spaceAt, signedAt, requestOf, lineOf};
 
 // The most bytes that a line has before its LF.
-pub const LONGEST: usize = 100;
+pub const LONGEST: usize = 115;
 
 // What a line stands for.
 pub enum Line {

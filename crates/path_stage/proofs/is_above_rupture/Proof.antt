@@ -7,7 +7,7 @@ use lib.Dec.{ltb}
 use Prim.Native.Nat.{_≤_}
 use Rattle.request.proofs.Tests.{wrong, right}
 use Rattle.outcome.specs.Figures.{dip}
-use Rattle.request.specs.Fields.{isBlank}
+use Rattle.request.specs.Fields.{isBlank, sizeOf}
 use Rattle.outcome.specs.Refusals.{aboveRupture}
 use Rattle.path_stage.proofs.is_above_rupture.Statement.{statement}
 use Rattle.path_stage.proofs.is_above_rupture.Tie as tie
@@ -22,11 +22,11 @@ returns c = rw (wrong _ _ (c .before .is-blank .ensures) (c .if1 .taken))
 blank : (c : tie.Else1) → isBlank (c .before .before .args .r .rrup) ≡ true
 blank c = right _ _ (c .before .is-blank .ensures) (c .if1 .left)
 
-steep : (c : tie.Else1) → 90 ≤ c .before .before .args .d → ltb (dip (c .before .before .args .r) .value) 90 ≡ false
-steep c h = le-ltb (dip (c .before .before .args .r) .value) 90 (rw (c .before .before .pre) at h)
+steep : (c : tie.Else1) → 90 ≤ c .before .before .args .d → ltb (sizeOf (dip (c .before .before .args .r))) 90 ≡ false
+steep c h = le-ltb (sizeOf (dip (c .before .before .args .r))) 90 (rw (c .before .before .pre) at h)
 
-gentle : (c : tie.Else2) → ltb (dip (c .before .before .before .args .r) .value) 90 ≡ true
-gentle c = lt-ltb (dip (c .before .before .before .args .r) .value) 90 (rw (c .before .before .before .pre) at (c .if2 .left))
+gentle : (c : tie.Else2) → ltb (sizeOf (dip (c .before .before .before .args .r))) 90 ≡ true
+gentle c = lt-ltb (sizeOf (dip (c .before .before .before .args .r))) 90 (rw (c .before .before .before .pre) at (c .if2 .left))
 
 returns-2 : tie.Need-returns-2
 unfolding aboveRupture

@@ -7,16 +7,17 @@ use native.Mathlib.Omega.{arith}
 use lib.Dec.{lit<}
 use mir.Syntax.{w64}
 use mir.Val.{Fits}
+use Rattle.request.proofs.Tests.{wrong, right}
 use Rattle.outcome.specs.Refusals.{tooShort}
 use Rattle.path_stage.proofs.is_too_short.Statement.{statement}
 use Rattle.path_stage.proofs.is_too_short.Tie as tie
 
-is-blank-requires : tie.Need-is-blank-requires
-is-blank-requires c κs = search needs
+is-given-requires : tie.Need-is-given-requires
+is-given-requires c κs = search needs
 
 returns : tie.Need-returns
 unfolding tooShort
-returns c = rw (sym (c .before .is-blank .ensures), c .if1 .taken)
+returns c = rw (wrong _ _ (c .before .is-given .ensures) (c .if1 .taken))
 
 size-of-requires : tie.Need-size-of-requires
 size-of-requires c κs = search needs
@@ -50,14 +51,15 @@ add-result c = omega (arith, mul-le-mul (rjb-le c) (rjb-le c), mul-le-mul (c .be
 
 returns-2 : tie.Need-returns-2
 unfolding tooShort
-returns-2 c = let s = c .before .before .before .before in
-    rw (sym (s .pre .0), c .before .size-of .ensures, c .size-of2 .ensures, sym (c .before .before .before .is-blank .ensures), c .before .before .if1 .left)
+returns-2 c = let e = c .before .before in
+    let s = e .before .before in
+    rw (sym (s .pre .0), c .before .size-of .ensures, c .size-of2 .ensures, right _ _ (e .before .is-given .ensures) (e .if1 .left))
 
 pub is-too-short-spec : {M : Type 1} → statement M
 is-too-short-spec =
     tie.close
     (tie.spec
-    is-blank-requires
+    is-given-requires
     returns
     size-of-requires
     add-d

@@ -1,31 +1,36 @@
--- By whether the field is given. Assumes nothing.
-use mathlib.Core.Path.{_∙_}
-use Rattle.outcome.specs.Figures.{figureOf}
+-- By whether the field is blank. Assumes nothing.
 use borrow.Author.Needs.{needs}
+use mathlib.Core.Path.{sym, ap, _∙_}
+use native.Mathlib.Omega.{arith}
+use Rattle.request.proofs.Tests.{wrong, right}
+use Rattle.rules.proofs.TopNear.{topFixed-top}
+use Rattle.outcome.specs.Figures.{estimated}
+use Rattle.outcome.proofs.FigureLaws.{stays, fills}
 use Rattle.source_stage.proofs.complete_top.Statement.{statement}
 use Rattle.source_stage.proofs.complete_top.Tie as tie
 
-enum-told : tie.Need-enum-told
-enum-told c = search needs
-
-given-figure-requires : tie.Need-given-figure-requires
-given-figure-requires c κs = search needs
+is-blank-requires : tie.Need-is-blank-requires
+is-blank-requires c κs = search needs
 
 returns : tie.Need-returns
-unfolding figureOf
-returns c = c .given-figure .ensures ∙ rw (c .before .enum-told .given .1)
-
-enum-told-2 : tie.Need-enum-told-2
-enum-told-2 c = search needs
+returns c = let s = c .before .before in
+    sym (stays (s .args .f) _ (wrong _ _ (c .before .is-blank .ensures) (c .if1 .taken)))
 
 top-estimate-requires : tie.Need-top-estimate-requires
 top-estimate-requires c κs = search needs
 
+estimated-figure-requires : tie.Need-estimated-figure-requires
+estimated-figure-requires c κs = let s = c .before .before .before in
+    omega (arith, c .top-estimate .ensures, topFixed-top (s .args .tenths) (s .args .w) (s .args .dip) (s .pre .0))
+
 returns-2 : tie.Need-returns-2
-unfolding figureOf
-returns-2 c = rw (c .before .enum-told2 .given .1, c .top-estimate .ensures)
+returns-2 c = let k = c .before in
+    let e = k .before in
+    c .estimated-figure .ensures
+    ∙ ap estimated (k .top-estimate .ensures)
+    ∙ sym (fills (e .before .before .args .f) _ (right _ _ (e .before .is-blank .ensures) (e .if1 .left)))
 
 pub complete-top-spec : {M : Type 1} → statement M
 complete-top-spec =
     tie.close
-    (tie.spec enum-told given-figure-requires returns enum-told-2 top-estimate-requires returns-2)
+    (tie.spec is-blank-requires returns top-estimate-requires estimated-figure-requires returns-2)

@@ -1,13 +1,15 @@
 -- Each figure is what its function ensures, and its ranges are those of an accepted source. Assumes nothing.
 use borrow.Author.Needs.{needs}
-use Prim.Native.Nat.{ℕ}
+use Prim.Native.Nat.{ℕ, _/_}
 use mathlib.Core.Path.{_≡_, ap, ap₂, _∙_}
 use Rattle.request.specs.declared.Style.{Style}
+use Rattle.request.specs.Fields.{sizeOf}
 use Rattle.rules.specs.Rules.{dipOf}
 use Rattle.rules.specs.Fixed.{widthFixed}
-use Rattle.outcome.specs.Figures.{figureOf, style, dip, width, zhypOf, zhyp, ztor}
+use Rattle.outcome.specs.Figures.{orEstimate, style, dip, width, zhyp, tenthsOf, zhypTenths, ztor}
 use Rattle.outcome.specs.Stages.{sourceFigures}
 use Rattle.outcome.proofs.Ranges.{source-range}
+use Rattle.outcome.proofs.FigureLaws.{by-tenths}
 use Rattle.source_stage.proofs.known_source.Statement.{statement}
 use Rattle.source_stage.proofs.known_source.Tie as tie
 
@@ -28,7 +30,7 @@ dip-is : (c : tie.After-complete-dip) → c .complete-dip .result ≡ dip (c .be
 unfolding dip
 dip-is c =
     c .complete-dip .ensures
-    ∙ ap (λ (s : Style). figureOf (c .before .before .before .args .r .dip) (dipOf s)) (style-is (c .before .before))
+    ∙ ap (λ (s : Style). orEstimate (c .before .before .before .args .r .dip) (dipOf s)) (style-is (c .before .before))
 
 complete-width-requires : tie.Need-complete-width-requires
 complete-width-requires c κs = let s = c .before .before .before in
@@ -40,35 +42,62 @@ unfolding width
 width-is c =
     let k = c .before .before in
     c .complete-width .ensures
-    ∙ ap₂ (λ (s : Style) (m : ℕ). figureOf (k .before .before .args .r .w) (widthFixed s m)) (style-is (k .before)) (k .size-of .ensures)
+    ∙ ap₂ (λ (s : Style) (m : ℕ). orEstimate (k .before .before .args .r .w) (widthFixed s m)) (style-is (k .before)) (k .size-of .ensures)
 
-complete-hypocentre-requires : tie.Need-complete-hypocentre-requires
-complete-hypocentre-requires c κs = let s = c .before .before .before .before in
+hypocentre-tenths-requires : tie.Need-hypocentre-tenths-requires
+hypocentre-tenths-requires c κs = let s = c .before .before .before .before in
     let range = source-range (s .args .r) (s .pre) in
     rw (c .before .before .size-of .ensures) (range .m-low, range .m-high, range .zhyp-given)
 
-hypocentre-is : (c : tie.After-complete-hypocentre) → c .complete-hypocentre .result ≡ zhyp (c .before .before .before .before .before .args .r)
-unfolding zhyp
-hypocentre-is c =
+complete-hypocentre-requires : tie.Need-complete-hypocentre-requires
+complete-hypocentre-requires c κs = search needs
+
+size-of-requires-2 : tie.Need-size-of-requires-2
+size-of-requires-2 c κs = search needs
+
+size-of-requires-3 : tie.Need-size-of-requires-3
+size-of-requires-3 c κs = search needs
+
+tenths-are : (c : tie.After-hypocentre-tenths) → c .hypocentre-tenths .result ≡ zhypTenths (c .before .before .before .before .before .args .r)
+unfolding zhypTenths
+tenths-are c =
     let k = c .before .before .before in
-    c .complete-hypocentre .ensures
-    ∙ ap₂ (λ (s : Style) (m : ℕ). zhypOf (k .before .before .args .r .zhyp) s m) (style-is (k .before)) (k .size-of .ensures)
+    c .hypocentre-tenths .ensures
+    ∙ ap₂ (λ (s : Style) (m : ℕ). tenthsOf (k .before .before .args .r .zhyp) s m) (style-is (k .before)) (k .size-of .ensures)
+
+hypocentre-is : (c : tie.After-complete-hypocentre) → c .complete-hypocentre .result ≡ zhyp (c .before .before .before .before .before .before .args .r)
+hypocentre-is c =
+    let r = c .before .before .before .before .before .before .args .r in
+    c .complete-hypocentre .ensures ∙ ap (λ (n : ℕ). orEstimate (r .zhyp) (n / 10)) (tenths-are (c .before)) ∙ by-tenths r
 
 complete-top-requires : tie.Need-complete-top-requires
-complete-top-requires c κs = let s = c .before .before .before .before .before in
+complete-top-requires c κs = let w = c .before in
+    let t = w .before .before in
+    let s = t .before .before .before .before .before in
     let range = source-range (s .args .r) (s .pre) in
-    rw (hypocentre-is c, width-is (c .before), dip-is (c .before .before)) (range .zhyp-high, range .w-high, range .dip-high)
+    rw (
+      tenths-are t,
+      w .size-of2 .ensures,
+      width-is (t .before),
+      c .size-of3 .ensures,
+      dip-is (t .before .before),
+    )
+    (range .zhyp-high, range .w-high, range .dip-high)
 
-top-is : (c : tie.After-complete-top) → c .complete-top .result ≡ ztor (c .before .before .before .before .before .before .args .r)
+top-is : (c : tie.After-complete-top) → c .complete-top .result ≡ ztor (c .before .before .before .before .before .before .before .before .before .args .r)
 unfolding ztor
 top-is c =
-    let k = c .before in
-    c .complete-top .ensures ∙ rw (hypocentre-is k, width-is (k .before), dip-is (k .before .before))
+    let d = c .before in
+    let w = d .before in
+    let t = w .before .before in
+    c .complete-top .ensures
+    ∙ rw (tenths-are t, w .size-of2 .ensures, width-is (t .before), d .size-of3 .ensures, dip-is (t .before .before))
 
 returns : tie.Need-returns
 unfolding sourceFigures
-returns c = let k = c .before .before in
-    rw (dip-is (k .before), width-is k, top-is c)
+returns c = let h = c .before .before .before in
+    let w = h .before .before in
+    rw (dip-is (w .before), width-is w, hypocentre-is h, top-is c)
 
 pub known-source-spec : {M : Type 1} → statement M
 known-source-spec =
@@ -78,6 +107,9 @@ known-source-spec =
     size-of-requires
     complete-dip-requires
     complete-width-requires
+    hypocentre-tenths-requires
     complete-hypocentre-requires
+    size-of-requires-2
+    size-of-requires-3
     complete-top-requires
     returns)

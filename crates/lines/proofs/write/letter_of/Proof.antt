@@ -1,15 +1,38 @@
--- The code's test is the definition's. Assumes nothing.
+-- By the four cases. Assumes nothing.
+use borrow.Author.Needs.{needs}
 use Rattle.lines.specs.Lines.{letterOf}
 use Rattle.lines.proofs.write.letter_of.Statement.{statement}
 use Rattle.lines.proofs.write.letter_of.Tie as tie
 
+enum-told : tie.Need-enum-told
+enum-told c = search needs
+
+enum-told-2 : tie.Need-enum-told-2
+enum-told-2 c = search needs
+
+enum-told-3 : tie.Need-enum-told-3
+enum-told-3 c = search needs
+
+enum-told-4 : tie.Need-enum-told-4
+enum-told-4 c = search needs
+
 returns : tie.Need-returns
 unfolding letterOf
-returns c = rw (c .if1 .taken)
+returns c = rw (c .enum-told .given .1)
 
 returns-2 : tie.Need-returns-2
 unfolding letterOf
-returns-2 c = rw (c .if1 .left)
+returns-2 c = rw (c .enum-told2 .given .1)
+
+returns-3 : tie.Need-returns-3
+unfolding letterOf
+returns-3 c = rw (c .enum-told3 .given .1)
+
+returns-4 : tie.Need-returns-4
+unfolding letterOf
+returns-4 c = rw (c .enum-told4 .given .1)
 
 pub letter-of-spec : {M : Type 1} → statement M
-letter-of-spec = tie.close (tie.spec returns returns-2)
+letter-of-spec =
+    tie.close
+    (tie.spec enum-told enum-told-2 enum-told-3 enum-told-4 returns returns-2 returns-3 returns-4)

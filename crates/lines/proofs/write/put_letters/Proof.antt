@@ -24,7 +24,7 @@ slice-aggregate-put-text c = search needs
 
 put-text-requires : tie.Need-put-text-requires
 unfolding letters
-put-text-requires c κs = c .before .before .before .before .before .before .before .before .before .before .before .before .before .pre
+put-text-requires c κs = c .before .before .before .before .before .before .before .before .pre
 
 same-length : tie.Need-same-length
 same-length c = search needs

@@ -5,7 +5,7 @@ use mathlib.Core.List.{List, _++_}
 use native.Mathlib.Omega.{arith}
 use denote.Ref.{now}
 use lib.ListN.{length}
-use Rattle.outcome.specs.declared.Completed.{Completed}
+use Rattle.request.specs.declared.Request.{Request}
 use Rattle.lent.specs.Lent.{Written}
 use Rattle.lent.proofs.PutLaws.{shorter, room-after, then}
 use Rattle.numerals.specs.Render.{ascii}
@@ -14,7 +14,7 @@ use Rattle.lines.proofs.write.put_ok.Statement.{statement}
 use Rattle.lines.proofs.write.put_ok.Tie as tie
 
 -- the texts that grow: "ok", and one figure more in each
-module _ (c : Completed) where
+module _ (c : Request) where
   abbrev text0 : List ℕ
   text0 = ascii "ok "
 
@@ -34,7 +34,7 @@ module _ (c : Completed) where
   text5 = text4 ++ spaced (c .z25)
 
 -- each fits where the line does
-module _ (c : Completed) (n : ℕ) (h : length (okLine c) ≤ n) where
+module _ (c : Request) (n : ℕ) (h : length (okLine c) ≤ n) where
   room6 : 0 + length (text5 c ++ letters c) ≤ n
   unfolding okLine
   room6 = omega arith
@@ -63,87 +63,87 @@ slice-aggregate-put-text c = search needs
 put-text-requires : tie.Need-put-text-requires
 unfolding ascii
 put-text-requires c κs =
-    let s = c .before .before .before .before .before .before .before .before in
+    let s = c .before .before .before in
     room0 (s .args .c) (length (now (s .args .out))) (s .pre)
 
 -- where the function began
 abbrev start0 : tie.After-put-text → tie.Start
-start0 c = c .before .before .before .before .before .before .before .before .before
+start0 c = c .before .before .before .before
 
 -- what is written after each call
 w0 : (c : tie.After-put-text) → Written (now (start0 c .args .out)) 0 (text0 (start0 c .args .c)) (c .put-text .result) (c .put-text .last .0)
 unfolding ascii
 w0 c = c .put-text .ensures
 
-put-ended-requires : tie.Need-put-ended-requires
-put-ended-requires c κs =
+put-figure-requires : tie.Need-put-figure-requires
+put-figure-requires c κs =
     let w = c .before .before .before in
     let s = start0 w in
     room-after (w0 w) (spaced (s .args .c .dip)) (room1 (s .args .c) (length (now (s .args .out))) (s .pre))
 
-abbrev start1 : tie.After-put-ended → tie.Start
+abbrev start1 : tie.After-put-figure → tie.Start
 start1 c = start0 (c .before .before .before .before)
 
-w1 : (c : tie.After-put-ended) → Written (now (start1 c .args .out)) 0 (text1 (start1 c .args .c)) (c .put-ended .result) (c .put-ended .last .0)
+w1 : (c : tie.After-put-figure) → Written (now (start1 c .args .out)) 0 (text1 (start1 c .args .c)) (c .put-figure .result) (c .put-figure .last .0)
 w1 c =
     let s = start1 c in
-    then (w0 (c .before .before .before .before)) (spaced (s .args .c .dip)) (room1 (s .args .c) (length (now (s .args .out))) (s .pre)) (c .put-ended .ensures)
+    then (w0 (c .before .before .before .before)) (spaced (s .args .c .dip)) (room1 (s .args .c) (length (now (s .args .out))) (s .pre)) (c .put-figure .ensures)
 
-put-ended-requires-2 : tie.Need-put-ended-requires-2
-put-ended-requires-2 c κs =
+put-figure-requires-2 : tie.Need-put-figure-requires-2
+put-figure-requires-2 c κs =
     let w = c .before .before .before in
     let s = start1 w in
     room-after (w1 w) (spaced (s .args .c .w)) (room2 (s .args .c) (length (now (s .args .out))) (s .pre))
 
-abbrev start2 : tie.After-put-ended2 → tie.Start
+abbrev start2 : tie.After-put-figure2 → tie.Start
 start2 c = start1 (c .before .before .before .before)
 
-w2 : (c : tie.After-put-ended2) → Written (now (start2 c .args .out)) 0 (text2 (start2 c .args .c)) (c .put-ended2 .result) (c .put-ended2 .last .0)
+w2 : (c : tie.After-put-figure2) → Written (now (start2 c .args .out)) 0 (text2 (start2 c .args .c)) (c .put-figure2 .result) (c .put-figure2 .last .0)
 w2 c =
     let s = start2 c in
-    then (w1 (c .before .before .before .before)) (spaced (s .args .c .w)) (room2 (s .args .c) (length (now (s .args .out))) (s .pre)) (c .put-ended2 .ensures)
+    then (w1 (c .before .before .before .before)) (spaced (s .args .c .w)) (room2 (s .args .c) (length (now (s .args .out))) (s .pre)) (c .put-figure2 .ensures)
 
-put-ended-requires-3 : tie.Need-put-ended-requires-3
-put-ended-requires-3 c κs =
+put-figure-requires-3 : tie.Need-put-figure-requires-3
+put-figure-requires-3 c κs =
     let w = c .before .before .before in
     let s = start2 w in
     room-after (w2 w) (spaced (s .args .c .ztor)) (room3 (s .args .c) (length (now (s .args .out))) (s .pre))
 
-abbrev start3 : tie.After-put-ended3 → tie.Start
+abbrev start3 : tie.After-put-figure3 → tie.Start
 start3 c = start2 (c .before .before .before .before)
 
-w3 : (c : tie.After-put-ended3) → Written (now (start3 c .args .out)) 0 (text3 (start3 c .args .c)) (c .put-ended3 .result) (c .put-ended3 .last .0)
+w3 : (c : tie.After-put-figure3) → Written (now (start3 c .args .out)) 0 (text3 (start3 c .args .c)) (c .put-figure3 .result) (c .put-figure3 .last .0)
 w3 c =
     let s = start3 c in
-    then (w2 (c .before .before .before .before)) (spaced (s .args .c .ztor)) (room3 (s .args .c) (length (now (s .args .out))) (s .pre)) (c .put-ended3 .ensures)
+    then (w2 (c .before .before .before .before)) (spaced (s .args .c .ztor)) (room3 (s .args .c) (length (now (s .args .out))) (s .pre)) (c .put-figure3 .ensures)
 
-put-ended-requires-4 : tie.Need-put-ended-requires-4
-put-ended-requires-4 c κs =
+put-figure-requires-4 : tie.Need-put-figure-requires-4
+put-figure-requires-4 c κs =
     let w = c .before .before .before in
     let s = start3 w in
     room-after (w3 w) (spaced (s .args .c .rrup)) (room4 (s .args .c) (length (now (s .args .out))) (s .pre))
 
-abbrev start4 : tie.After-put-ended4 → tie.Start
+abbrev start4 : tie.After-put-figure4 → tie.Start
 start4 c = start3 (c .before .before .before .before)
 
-w4 : (c : tie.After-put-ended4) → Written (now (start4 c .args .out)) 0 (text4 (start4 c .args .c)) (c .put-ended4 .result) (c .put-ended4 .last .0)
+w4 : (c : tie.After-put-figure4) → Written (now (start4 c .args .out)) 0 (text4 (start4 c .args .c)) (c .put-figure4 .result) (c .put-figure4 .last .0)
 w4 c =
     let s = start4 c in
-    then (w3 (c .before .before .before .before)) (spaced (s .args .c .rrup)) (room4 (s .args .c) (length (now (s .args .out))) (s .pre)) (c .put-ended4 .ensures)
+    then (w3 (c .before .before .before .before)) (spaced (s .args .c .rrup)) (room4 (s .args .c) (length (now (s .args .out))) (s .pre)) (c .put-figure4 .ensures)
 
-put-ended-requires-5 : tie.Need-put-ended-requires-5
-put-ended-requires-5 c κs =
+put-figure-requires-5 : tie.Need-put-figure-requires-5
+put-figure-requires-5 c κs =
     let w = c .before .before .before in
     let s = start4 w in
     room-after (w4 w) (spaced (s .args .c .z25)) (room5 (s .args .c) (length (now (s .args .out))) (s .pre))
 
-abbrev start5 : tie.After-put-ended5 → tie.Start
+abbrev start5 : tie.After-put-figure5 → tie.Start
 start5 c = start4 (c .before .before .before .before)
 
-w5 : (c : tie.After-put-ended5) → Written (now (start5 c .args .out)) 0 (text5 (start5 c .args .c)) (c .put-ended5 .result) (c .put-ended5 .last .0)
+w5 : (c : tie.After-put-figure5) → Written (now (start5 c .args .out)) 0 (text5 (start5 c .args .c)) (c .put-figure5 .result) (c .put-figure5 .last .0)
 w5 c =
     let s = start5 c in
-    then (w4 (c .before .before .before .before)) (spaced (s .args .c .z25)) (room5 (s .args .c) (length (now (s .args .out))) (s .pre)) (c .put-ended5 .ensures)
+    then (w4 (c .before .before .before .before)) (spaced (s .args .c .z25)) (room5 (s .args .c) (length (now (s .args .out))) (s .pre)) (c .put-figure5 .ensures)
 
 put-letters-requires : tie.Need-put-letters-requires
 put-letters-requires c κs =
@@ -168,11 +168,11 @@ put-ok-spec =
     (tie.spec
     slice-aggregate-put-text
     put-text-requires
-    put-ended-requires
-    put-ended-requires-2
-    put-ended-requires-3
-    put-ended-requires-4
-    put-ended-requires-5
+    put-figure-requires
+    put-figure-requires-2
+    put-figure-requires-3
+    put-figure-requires-4
+    put-figure-requires-5
     put-letters-requires
     same-length
     returns)
