@@ -19,8 +19,6 @@
 #define MARKED UINT64_C(0xa5a5a5a5a5a5a5a5)
 #define AROUND 64
 
-/* The longest line that is read. */
-
 /* Bytes that are enough for the answers to any list of the edges. */
 #define LISTED 16384
 
@@ -34,7 +32,7 @@ static const size_t completed_length = sizeof completed - 1;
 
 /* A request whose completion is the longest, and that. */
 static const char long_request[] = "650 0 760 - 100000 - 15000 199000 30 200000 - - 10000\n";
-static const char longest[] = "ok 90 100000 15000 200000 10000 egggg\n";
+static const char longest[] = "ok 90 100000 15000 200000 10000 emmmm\n";
 
 static const char malformed[] = "no 14\n";
 static const size_t malformed_length = sizeof malformed - 1;

@@ -14,7 +14,7 @@ use Rattle.refusals.specs.Order as No
 use Rattle.request.specs.declared.Request.{Request}
 use Rattle.outcome.specs.declared.Completion.the-variants as C
 use Rattle.outcome.specs.Refusals.{refusal}
-use Rattle.outcome.specs.Answers.{completed, completionOf, numberOf}
+use Rattle.outcome.specs.Answers.{completed, completionOf}
 use Rattle.outcome.proofs.ExactlyWhen.{accepted-by, period-unread}
 use Rattle.tables.specs.Tables.{periodAt}
 use Rattle.model.specs.declared.Scenario.{Scenario}

@@ -6,9 +6,8 @@ use mathlib.Core.Bool.{Bool}
 use mathlib.Core.List.{[], _∷_, _++_}
 use lib.Dec.{ltb}
 use lib.IntN.{pos, negsuc}
-use Rattle.request.specs.declared.Field.{Field}
 use Rattle.request.specs.declared.Request.{Request}
-use Rattle.request.specs.Fields.{isBlank, isGiven, valueOf, sizeOf, within, allowed}
+use Rattle.request.specs.Fields.{sizeOf}
 use Rattle.request.specs.Styles.{topMagnitude}
 use Rattle.request.specs.Origins.{each, asMeasured, forget}
 use Rattle.request.proofs.OriginLaws.{given-alike, blank-alike, value-alike, size-alike, within-alike, allowed-alike, marked-alike, measured-twice}
@@ -16,7 +15,7 @@ use Rattle.refusals.specs.Order.{Rows, first}
 use Rattle.refusals.specs.Order as No
 use Rattle.outcome.specs.declared.Completion.{Completion}
 use Rattle.outcome.specs.declared.Completion.the-variants as C
-use Rattle.outcome.specs.Figures.{orEstimate, style, dip, width, zhyp, tenthsOf, zhypTenths, ztor, rrup, basinOf, z25}
+use Rattle.outcome.specs.Figures.{style, dip, width, zhyp, tenthsOf, zhypTenths, ztor, rrup, basinOf, z25}
 use Rattle.outcome.specs.Refusals.{markedRows, sourceGiven, sourceRows, aboveRupture, pathGiven, tooShort, pathRows, siteGiven, siteRows, rows, refusal}
 use Rattle.outcome.specs.Answers.{completed, answer, completionOf, numberOf}
 use Rattle.outcome.specs.Forgotten.{forgotten}

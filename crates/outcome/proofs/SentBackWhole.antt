@@ -12,10 +12,9 @@ use lib.Dec.{ltb}
 use lib.IntN.{pos, negsuc}
 use borrow.Author.Tests.{le-ltb, ltb-false}
 use Rattle.exact.proofs.Root.{square-one}
-use Rattle.request.specs.declared.Field.{Field}
 use Rattle.request.specs.declared.Field.the-variants.{Blank}
 use Rattle.request.specs.declared.Request.{Request}
-use Rattle.request.specs.Fields.{isGiven, isEstimated, isBlank, valueOf, sizeOf, within, allowed, marked}
+use Rattle.request.specs.Fields.{isGiven, isEstimated, sizeOf, within, allowed, marked}
 use Rattle.request.specs.Styles.{topMagnitude}
 use Rattle.request.specs.Origins.{each, asInferred}
 use Rattle.request.proofs.OriginLaws.{value-inferred, size-inferred, none-marked, unmarked-each}
@@ -24,7 +23,7 @@ use Rattle.refusals.specs.Order as No
 use Rattle.refusals.proofs.Rows.{clear, nothing, skip, first-both}
 use Rattle.outcome.specs.declared.Completion.{Completion}
 use Rattle.outcome.specs.declared.Completion.the-variants as C
-use Rattle.outcome.specs.Figures.{orEstimate, style, dip, width, zhyp, ztor, rrup, z25}
+use Rattle.outcome.specs.Figures.{style, dip, width, zhyp, ztor, rrup, z25}
 use Rattle.outcome.specs.Refusals.{sourceGiven, sourceRows, aboveRupture, pathGiven, tooShort, pathRows, siteGiven, siteRows, refusal}
 use Rattle.outcome.specs.Answers.{completed, completionOf}
 use Rattle.outcome.specs.SentBack.{sentBack}

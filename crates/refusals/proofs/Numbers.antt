@@ -1,9 +1,17 @@
--- The refusals' numbers lie from 1 to that of a figure already marked as ours, each once. Assumes nothing.
+-- The refusals' numbers, with those that requests of document 02 yet to come will give, are 1 to as many as there are, each once. Assumes
+-- nothing.
+use Prim.Native.Nat.{ℕ}
+use mathlib.Core.List.{List, [], _∷_, _++_}
 use lib.Dec.{T}
-use Rattle.refusals.specs.Order.{marked, order, apart, upTo}
+use lib.ListN.{length}
+use Rattle.refusals.specs.Order.{order, apart, upTo}
 
-pub numbers-apart : T (apart order)
+-- not given yet
+abbrev later : List ℕ
+later = 18 ∷ 19 ∷ 20 ∷ 21 ∷ 22 ∷ 23 ∷ 24 ∷ 25 ∷ []
+
+pub numbers-apart : T (apart (order ++ later))
 numbers-apart = tt
 
-pub numbers-within : T (upTo marked order)
-numbers-within = tt
+pub numbers-whole : T (upTo (length (order ++ later)) (order ++ later))
+numbers-whole = tt

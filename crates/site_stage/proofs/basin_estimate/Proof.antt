@@ -1,6 +1,6 @@
 -- By which of the two depths is given. Assumes nothing.
 use borrow.Author.Needs.{needs}
-use mathlib.Core.Path.{sym, _∙_}
+use mathlib.Core.Path.{_∙_}
 use Rattle.outcome.specs.Figures.{basinOf}
 use Rattle.site_stage.proofs.basin_estimate.Statement.{statement}
 use Rattle.site_stage.proofs.basin_estimate.Tie as tie

@@ -3,7 +3,7 @@ use borrow.Author.Needs.{needs}
 use mathlib.Core.Path.{sym, ap, _∙_}
 use native.Mathlib.Omega.{arith}
 use Rattle.request.proofs.Tests.{wrong, right}
-use Rattle.outcome.specs.Figures.{estimated, basinOf}
+use Rattle.outcome.specs.Figures.{estimated}
 use Rattle.outcome.proofs.FigureLaws.{basin-given, basin-estimated}
 use Rattle.outcome.proofs.Ranges.{source-range, source-given, site-range, basin-most}
 use Rattle.site_stage.proofs.known_site.Statement.{statement}

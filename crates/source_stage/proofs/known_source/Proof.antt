@@ -3,7 +3,6 @@ use borrow.Author.Needs.{needs}
 use Prim.Native.Nat.{ℕ, _/_}
 use mathlib.Core.Path.{_≡_, ap, ap₂, _∙_}
 use Rattle.request.specs.declared.Style.{Style}
-use Rattle.request.specs.Fields.{sizeOf}
 use Rattle.rules.specs.Rules.{dipOf}
 use Rattle.rules.specs.Fixed.{widthFixed}
 use Rattle.outcome.specs.Figures.{orEstimate, style, dip, width, zhyp, tenthsOf, zhypTenths, ztor}
