@@ -157,7 +157,11 @@ static double library_curve(const struct line *line, int k) {
 static double second_completion(const struct line *line, int k) {
     char *out = (char *)bytes_out;
     struct completed c = second_completed(line);
-    int size = snprintf(out, sizeof bytes_out, "ok %ld %ld %ld %ld %ld %s\n", c.dip, c.w, c.ztor, c.rrup, c.z25, c.from);
+    const struct field *f = c.record.field;
+    char letters[6];
+    letters_of(&c, letters);
+    int size = snprintf(out, sizeof bytes_out, "ok %ld %ld %ld %ld %ld %s\n", f[F_DIP].number, f[F_W].number, f[F_ZTOR].number,
+        f[F_RRUP].number, f[F_Z25].number, letters);
     return out[k % size];
 }
 

@@ -1,8 +1,9 @@
 -- From the rows of a stage to its answer, and from the three answers to the whole. Assumes nothing.
 use Prim.Native.Nat.{ℕ, zero, suc, _≤_, _<_}
 use mathlib.Core.Path.{_≡_, refl, sym, ap, _∙_}
-use mathlib.Core.Bool.{true, false}
+use mathlib.Core.Bool.{Bool, true, false}
 use mathlib.Core.List.{[], _∷_, _++_}
+use mathlib.Core.Logic.{_↔_}
 use native.Mathlib.Omega.{arith}
 use lib.Dec.{T}
 use borrow.Author.Tests.{lt-ltb, le-ltb}
@@ -17,10 +18,10 @@ use Rattle.outcome.specs.Figures.{ztor, rrup, z25}
 use Rattle.refusals.specs.Order.{Rows, first}
 use Rattle.refusals.specs.Order as No
 use Rattle.outcome.specs.Refusals.{markedRows, sourceGiven, sourceCompleted, sourceRows, tooShort, pathGiven, pathCompleted, pathRows, siteGiven, siteCompleted, siteRows, rows, refusal}
-use Rattle.outcome.specs.Answers.{answer, completionOf}
+use Rattle.outcome.specs.Answers.{answer, completionOf, numberOf}
 use Rattle.outcome.specs.Stages.{sourceFigures, sourceAnswer, sourceAnswerOf, figureAnswer, pathAnswerOf, siteAnswerOf}
-use Rattle.refusals.proofs.Rows.{numbered, nothing, skip, holds, passes, three, first-after, first-before}
-use Rattle.outcome.proofs.ExactlyWhen.{marked-numbered, source-numbered, path-numbered, all-path-numbered}
+use Rattle.refusals.proofs.Rows.{numbered, nothing, skip, holds, passes, three, first-after, first-before, first-absent}
+use Rattle.outcome.proofs.ExactlyWhen.{number-is, marked-numbered, source-numbered, path-numbered, all-path-numbered}
 
 positive : (n : ℕ) → 0 < n → (k : ℕ) × (n ≡ suc k)
 positive zero h = absurd (omega arith)
@@ -147,6 +148,18 @@ unmarked r t = skip _ _ [] t nothing
 by-stages : (r : Request) → first (markedRows r) ≡ 0 → first (rows r) ≡ first (sourceRows r ++ (pathRows r ++ siteRows r))
 unfolding rows
 by-stages r u = first-after (markedRows r) (sourceRows r ++ (pathRows r ++ siteRows r)) (marked-numbered r) u
+
+-- so a request is refused for a marked figure exactly where it has one, whatever else is wrong with it
+pub marked-exactly : (r : Request) → (completionOf r ≡ C.Refused No.marked) ↔ (marked r ≡ true)
+unfolding refusal sourceRows sourceGiven pathRows pathGiven siteRows siteGiven
+marked-exactly r = (λ e. go (marked r) refl e, λ t. sym (marked-tells r t))
+  where
+    go : (t : Bool) → marked r ≡ t → completionOf r ≡ C.Refused No.marked → marked r ≡ true
+    go true u e = u
+    go false u e =
+        absurd
+        (first-absent No.marked (sourceRows r ++ (pathRows r ++ siteRows r)) (omega arith) tt
+        (sym (by-stages r (unmarked r u)) ∙ sym (number-is r) ∙ ap numberOf e))
 
 -- what a stage's answer says of its rows
 pub record Known {A : Type 0} (rows : Rows) (x y : A) : Type 0 where
