@@ -50,13 +50,6 @@ given-stays (Inferred v) e h = refl
 given-stays (Estimated v) e h = refl
 given-stays Blank e h = absurd (subst (λ t. T (not t)) h tt)
 
-pub blank-is : (f : Field) → isBlank f ≡ true → f ≡ Blank
-unfolding isBlank
-blank-is (Measured v) h = absurd (subst (λ t. T (not t)) h tt)
-blank-is (Inferred v) h = absurd (subst (λ t. T (not t)) h tt)
-blank-is (Estimated v) h = absurd (subst (λ t. T (not t)) h tt)
-blank-is Blank h = refl
-
 -- what is allowed is given or blank
 pub given-or-blank : (f : Field) (a b : ℤ) → not (allowed f a b) ≡ false → (isGiven f ≡ true) ⊎ (f ≡ Blank)
 unfolding allowed within isGiven isBlank

@@ -4,8 +4,8 @@ use mathlib.Core.Path.{_≡_, refl, subst}
 use mathlib.Core.Bool.{Bool, true, false, not, cond, _&&_}
 use mathlib.Core.List.{[]}
 use native.Mathlib.Omega.{arith}
-use lib.Dec.{T, lit≤}
-use lib.IntN.{ℤ, pos, negsuc, natAbs}
+use lib.Dec.{T}
+use lib.IntN.{ℤ, pos}
 use lib.Signed.{leZ}
 use borrow.Author.Tests.{not-false, ltb-false}
 use Rattle.exact.proofs.Signed.{by-sign, abs-parts, le-parts}
@@ -60,32 +60,14 @@ figure-range (Inferred v) e a b t l h = within-size (Inferred v) a b t
 figure-range (Estimated v) e a b t l h = within-size (Estimated v) a b t
 figure-range Blank e a b t l h = (l, h)
 
-top-most : (s : Style) → natAbs (topMagnitude s) ≤ 850
-unfolding topMagnitude
-top-most StrikeSlip = lit≤ tt
-top-most Reverse = lit≤ tt
-top-most Normal = lit≤ tt
-
 magnitude : (f : Field) (s : Style) → within f (pos 400) (topMagnitude s) ≡ true → (400 ≤ sizeOf f) × (sizeOf f ≤ 850)
 unfolding topMagnitude
 magnitude f StrikeSlip e = within-size f 400 850 e
 magnitude f Reverse e = let w = within-size f 400 800 e in (w .0, omega (arith, w .1))
 magnitude f Normal e = let w = within-size f 400 750 e in (w .0, omega (arith, w .1))
 
--- a signed field in the range of an angle
-signed-size : (f : Field) → within f (negsuc 179) (pos 180) ≡ true → natAbs (valueOf f) ≤ 180
-unfolding within
-signed-size f e =
-    let v : ℤ = valueOf f in
-    let given = both (isGiven f) (leZ (negsuc 179) v && leZ v (pos 180)) e in
-    let t = both (leZ (negsuc 179) v) (leZ v (pos 180)) (given .1) in
-    let low = le-parts (negsuc 179) v (t .0) in
-    let high = le-parts v (pos 180) (t .1) in
-    by-sign v (λ h. omega (arith, abs-parts v, high)) (λ h. omega (arith, abs-parts v, low))
-
 -- ---- the source
 pub record SourceRange (r : Request) : Type 0 where
-  pub rake-size : natAbs (valueOf (r .rake)) ≤ 180
   pub m-low : 400 ≤ sizeOf (r .m)
   pub m-high : sizeOf (r .m) ≤ 850
   pub vs30-low : 150 ≤ sizeOf (r .vs30)
@@ -122,7 +104,6 @@ source-range r e =
     let w = figure-range (r .w) _ 1 100000 (not-false _ (c5 .0)) (near .bottom) (near .top) in
     let z = allowed-size (r .zhyp) 0 30000 (not-false _ (c6 .0)) in
     record {
-      rake-size = signed-size (r .rake) (not-false _ (c1 .0));
       m-low = m .0;
       m-high = m .1;
       vs30-low = v .0;
@@ -153,7 +134,6 @@ source-given r e = first-both (sourceGiven r) _ tt e .0
 -- ---- the path
 pub record PathRange (r : Request) : Type 0 where
   pub rjb-high : sizeOf (r .rjb) ≤ 200000
-  pub azimuth-size : natAbs (valueOf (r .azimuth)) ≤ 180
   pub rrup-given : sizeOf (r .rrup) ≤ 200000
 
 pub path-range : (r : Request) → first (pathGiven r) ≡ 0 → PathRange r
@@ -165,7 +145,6 @@ path-range r e =
     let c11 = clear _ _ (c10 .1) tt in
     record {
       rjb-high = within-size (r .rjb) 0 200000 (not-false _ (c8 .0)) .1;
-      azimuth-size = signed-size (r .azimuth) (not-false _ (c9 .0));
       rrup-given = allowed-size (r .rrup) 0 200000 (not-false _ (c11 .0));
     }
 

@@ -10,33 +10,29 @@ use Rattle.request.specs.Fields.{isGiven, isEstimated, isBlank, valueOf,
 use Rattle.request.specs.Origins.{each, asMeasured, forget, asInferred}
 
 -- ---- measured or inferred
+-- what does not tell the two apart is the same of a field and of one taken as measured
+alike : {A : Type 0} (g : Field → A) → ((v : ℤ) → g (Measured v) ≡ g (Inferred v)) → (f : Field) → g (asMeasured f) ≡ g f
+unfolding asMeasured
+alike g same (Measured v) = refl
+alike g same (Inferred v) = same v
+alike g same (Estimated v) = refl
+alike g same Blank = refl
+
 pub given-alike : (f : Field) → isGiven (asMeasured f) ≡ isGiven f
-unfolding isGiven asMeasured
-given-alike (Measured v) = refl
-given-alike (Inferred v) = refl
-given-alike (Estimated v) = refl
-given-alike Blank = refl
+unfolding isGiven
+given-alike = alike isGiven (λ v. refl)
 
 pub estimated-alike : (f : Field) → isEstimated (asMeasured f) ≡ isEstimated f
-unfolding isEstimated asMeasured
-estimated-alike (Measured v) = refl
-estimated-alike (Inferred v) = refl
-estimated-alike (Estimated v) = refl
-estimated-alike Blank = refl
+unfolding isEstimated
+estimated-alike = alike isEstimated (λ v. refl)
 
 pub blank-alike : (f : Field) → isBlank (asMeasured f) ≡ isBlank f
-unfolding isBlank asMeasured
-blank-alike (Measured v) = refl
-blank-alike (Inferred v) = refl
-blank-alike (Estimated v) = refl
-blank-alike Blank = refl
+unfolding isBlank
+blank-alike = alike isBlank (λ v. refl)
 
 pub value-alike : (f : Field) → valueOf (asMeasured f) ≡ valueOf f
-unfolding valueOf asMeasured
-value-alike (Measured v) = refl
-value-alike (Inferred v) = refl
-value-alike (Estimated v) = refl
-value-alike Blank = refl
+unfolding valueOf
+value-alike = alike valueOf (λ v. refl)
 
 pub size-alike : (f : Field) → sizeOf (asMeasured f) ≡ sizeOf f
 unfolding sizeOf
@@ -72,10 +68,7 @@ marked-alike r =
 -- once forgotten, nothing is left to forget
 pub measured-twice : (f : Field) → asMeasured (asMeasured f) ≡ asMeasured f
 unfolding asMeasured
-measured-twice (Measured v) = refl
-measured-twice (Inferred v) = refl
-measured-twice (Estimated v) = refl
-measured-twice Blank = refl
+measured-twice = alike asMeasured (λ v. refl)
 
 -- ---- estimated, marked as inferred
 pub value-inferred : (f : Field) → valueOf (asInferred f) ≡ valueOf f

@@ -140,7 +140,3 @@ pub signed-no-space : (z : ℤ) → spaceAt (renderSigned z) ≡ length (renderS
 unfolding renderSigned spaceAt
 signed-no-space (pos n) = number-no-space n
 signed-no-space (negsuc n) = ap suc (number-no-space (suc n))
-
-pub inferred-no-space : (z : ℤ) → spaceAt (tilde ∷ renderSigned z) ≡ length (tilde ∷ renderSigned z)
-unfolding spaceAt
-inferred-no-space z = ap suc (signed-no-space z)
