@@ -209,22 +209,42 @@ static const uint64_t TABULATED[PERIODS] = {
 };
 
 /* A line for each refusal of a request. */
-static const char *const REFUSED[] = {
-    [1] = "650 181 760 - 10000 - 3000 4000 30 - - - 2000",
-    [2] = "851 0 760 - 10000 - 3000 4000 30 - - - 2000",
-    [3] = "650 0 149 - 10000 - 3000 4000 30 - - - 2000",
-    [4] = "650 0 760 14 10000 - 3000 4000 30 - - - 2000",
-    [5] = "650 0 760 - 0 - 3000 4000 30 - - - 2000",
-    [6] = "650 0 760 - 10000 30001 3000 4000 30 - - - 2000",
-    [7] = "650 0 760 - 10000 - 15001 4000 30 - - - 2000",
-    [8] = "650 0 760 - 10000 - 3000 200001 30 - - - 2000",
-    [9] = "650 0 760 - 10000 - 3000 4000 181 - - - 2000",
-    [10] = "650 90 300 40 10000 - 3000 0 90 - - - 2000",
-    [11] = "650 0 760 - 10000 - 3000 4000 30 200001 - - 2000",
-    [12] = "650 0 760 - 10000 - 3000 4000 30 4998 - - 2000",
-    [13] = "650 0 760 - 10000 - 3000 4000 30 - - - 10001",
-    [14] = "650 0 760 - 10000 - 3000 4000 30 - - - 2000\n",
+static const struct {
+    uint32_t number;
+    const char *line;
+} REFUSED[] = {
+    {1, "650 181 760 - 10000 - 3000 4000 30 - - - 2000"},
+    {2, "851 0 760 - 10000 - 3000 4000 30 - - - 2000"},
+    {3, "650 0 149 - 10000 - 3000 4000 30 - - - 2000"},
+    {4, "650 0 760 14 10000 - 3000 4000 30 - - - 2000"},
+    {5, "650 0 760 - 0 - 3000 4000 30 - - - 2000"},
+    {6, "650 0 760 - 10000 30001 3000 4000 30 - - - 2000"},
+    {7, "650 0 760 - 10000 - 15001 4000 30 - - - 2000"},
+    {8, "650 0 760 - 10000 - 3000 200001 30 - - - 2000"},
+    {9, "650 0 760 - 10000 - 3000 4000 181 - - - 2000"},
+    {10, "650 90 300 40 10000 - 3000 0 90 - - - 2000"},
+    {11, "650 0 760 - 10000 - 3000 4000 30 200001 - - 2000"},
+    {12, "650 0 760 - 10000 - 3000 4000 30 4998 - - 2000"},
+    {18, "650 0 760 - 10000 - 3000 4000 30 13603 - - 2000"},
+    {13, "650 0 760 - 10000 - 3000 4000 30 - - - 10001"},
+    {14, "650 0 760 - 10000 - 3000 4000 30 - - - 2000\n"},
 };
+
+/* The longest RRUP that RJB 4000, ZTOR 3000 and W 10000 allow, and a metre more. */
+static void longest_distance(uint8_t *end, uint8_t *out_end)
+{
+    double median = -1.0;
+    double total = -1.0;
+    request(end, "650 0 760 - 10000 - 3000 4000 30 13602 - - 2000");
+    every_length(xanhupive_complete_line, "ok 90 10000 3000 13602 2000 emmmm\n", 34, out_end);
+    request(end, "650 0 760 - 10000 - 3000 4000 30 13603 - - 2000");
+    every_length(xanhupive_complete_line, "no 18\n", 6, out_end);
+    every_length(xanhupive_predict_line, "no 18\n", 6, out_end);
+    expect(xanhupive_measure(line, length, 24, &median, &total) == 18 && median == -1.0 && total == -1.0, "18 comes before 15");
+    expect(xanhupive_spectrum(line, length, NULL, 0) == 18, "18 comes before 16");
+    request(end, "650 0 760 - 10000 - 3000 4000 30 13603 - - 10001");
+    expect(xanhupive_spectrum(line, length, NULL, 0) == 18, "18 comes before 13");
+}
 
 /* Periods out of range; the lower half of one of them is in it. */
 static const uint64_t NO_PERIODS[] = {0, 9, 10001, (UINT64_C(1) << 32) + 370, UINT64_MAX};
@@ -246,11 +266,11 @@ static void period_refused(uint64_t period, uint32_t refusal, double *last, cons
 /* The request's refusals come before the period's, and that before the row's. */
 static void period_refusals(uint8_t *end, double *last)
 {
-    for (uint32_t refusal = 1; refusal < COUNT(REFUSED); refusal++) {
-        request(end, REFUSED[refusal]);
-        period_refused(370, refusal, last, "a refused request at a period");
+    for (size_t n = 0; n < COUNT(REFUSED); n++) {
+        request(end, REFUSED[n].line);
+        period_refused(370, REFUSED[n].number, last, "a refused request at a period");
         for (size_t k = 0; k < COUNT(NO_PERIODS); k++)
-            period_refused(NO_PERIODS[k], refusal, last, "the request's refusal comes before the period's");
+            period_refused(NO_PERIODS[k], REFUSED[n].number, last, "the request's refusal comes before the period's");
     }
     request(end, "650 0 760 - 10000 - 3000 4000 30 - - - 2000");
     for (size_t k = 0; k < COUNT(NO_PERIODS); k++)
@@ -368,6 +388,7 @@ int main(void)
     soft_site(line_end);
     origins(line_end);
     longest_lines(line_end);
+    longest_distance(line_end, out_end);
     request(line_end, "~650 ~0 ~760 - ~10000 - 3000 ~4000 30 - - - ~2000");
     every_length(xanhupive_complete_line, "ok 90 10000 3000 5000 2000 eimei\n", 33, out_end);
     periods(line_end, out_end);

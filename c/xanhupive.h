@@ -132,8 +132,8 @@ size_t xanhupive_predict_line(const uint8_t *line, size_t line_length, uint8_t *
  *
  * Returns 0, with the median in 10^-10 of g, cm/s or cm in `*median`, and the total sigma in millionths
  * in `*total`. Each is a whole number, the double exactly that number.
- * Or returns the refusal's number, and both are as they were: 14 for a malformed line, 1 to 13 for a
- * request that is refused, else 15 for a measure above 23.
+ * Or returns the refusal's number, and both are as they were: 14 for a malformed line, 1 to 13 or 18 for
+ * a request that is refused, else 15 for a measure above 23.
  */
 uint32_t xanhupive_measure(const uint8_t *line, size_t line_length, uint64_t measure, double *median, double *total);
 
@@ -143,8 +143,8 @@ uint32_t xanhupive_measure(const uint8_t *line, size_t line_length, uint64_t mea
  * Returns 0, with row k in rows[6 * k] to rows[6 * k + 5], in the order of XANHUPIVE_COLUMNS, ln median
  * and sigmas in millionths, the median as above, each double exactly that whole number. Numbers from
  * rows[144] on are as they were.
- * Or returns the refusal's number, and no number has changed: 14 for a malformed line, 1 to 13 for a
- * request that is refused, else 16 where `rows_length`, counted in doubles, is below XANHUPIVE_NUMBERS.
+ * Or returns the refusal's number, and no number has changed: 14 for a malformed line, 1 to 13 or 18 for
+ * a request that is refused, else 16 where `rows_length`, counted in doubles, is below XANHUPIVE_NUMBERS.
  */
 uint32_t xanhupive_spectrum(const uint8_t *line, size_t line_length, double *rows, size_t rows_length);
 
@@ -158,8 +158,8 @@ uint32_t xanhupive_spectrum(const uint8_t *line, size_t line_length, double *row
  * Returns 0, with the row in row[0] to row[5], in the order of XANHUPIVE_COLUMNS and the units of
  * xanhupive_spectrum, each double exactly a whole number between two tabulated periods too: ln median and
  * sigmas are whole numbers of millionths, as in all rows. Numbers from row[6] on are as they were.
- * Or returns the refusal's number, and no number has changed: 14 for a malformed line, 1 to 13 for a
- * request that is refused, else 17 for a period that is not from XANHUPIVE_SHORTEST_PERIOD to
+ * Or returns the refusal's number, and no number has changed: 14 for a malformed line, 1 to 13 or 18 for
+ * a request that is refused, else 17 for a period that is not from XANHUPIVE_SHORTEST_PERIOD to
  * XANHUPIVE_LONGEST_PERIOD, else 16 where `row_length`, counted in doubles, is below XANHUPIVE_COLUMNS.
  */
 uint32_t xanhupive_period(const uint8_t *line, size_t line_length, uint64_t period, double *row, size_t row_length);

@@ -7,6 +7,10 @@ pub(crate) const GOOD: &[u8] = b"650 0 760 - 10000 - 3000 4000 30 - - - 2000";
 pub(crate) const TOO_LARGE: &[u8] = b"851 0 760 - 10000 - 3000 4000 30 - - - 2000";
 pub(crate) const ABOVE: &[u8] = b"650 90 300 40 10000 - 3000 0 90 - - - 2000";
 
+/// The longest RRUP that RJB 4000, ZTOR 3000 and W 10000 allow, and a metre more: refusal 18.
+const LONGEST_DISTANCE: &[u8] = b"650 0 760 - 10000 - 3000 4000 30 13602 - - 2000";
+const TOO_FAR: &[u8] = b"650 0 760 - 10000 - 3000 4000 30 13603 - - 2000";
+
 /// A soft site near a large earthquake.
 const SOFT: &[u8] = b"800 90 150 45 20000 - 1000 0 90 1000 - - 10000";
 
@@ -70,6 +74,14 @@ fn the_longest_completion() {
     assert_eq!(answer.len(), LONGEST_COMPLETION);
     assert_eq!(complete_line(line, &mut [MARK; LONGEST_COMPLETION]), Some(&answer[..]));
     assert_eq!(complete_line(line, &mut [MARK; LONGEST_COMPLETION - 1]), None);
+}
+
+#[test]
+fn the_longest_distance() {
+    assert_eq!(answered(complete_line, LONGEST_DISTANCE), b"ok 90 10000 3000 13602 2000 emmmm\n");
+    assert!(spectrum(LONGEST_DISTANCE).is_ok());
+    assert_eq!(answered(complete_line, TOO_FAR), b"no 18\n");
+    assert_eq!(answered(predict_line, TOO_FAR), b"no 18\n");
 }
 
 /// Measured or inferred, the letters say which and the numbers are the same.
@@ -200,7 +212,7 @@ fn refusals_in_their_order() {
         assert_eq!(period(line, 370), Err(14));
         assert!(NO_PERIODS.iter().all(|&at| period(line, at) == Err(14)));
     }
-    for (line, refusal) in [(TOO_LARGE, 2), (ABOVE, 10)] {
+    for (line, refusal) in [(TOO_LARGE, 2), (ABOVE, 10), (TOO_FAR, 18)] {
         assert_eq!(measure(line, PGA), Err(refusal));
         assert_eq!(measure(line, 24), Err(refusal));
         assert_eq!(spectrum(line), Err(refusal));

@@ -3,7 +3,7 @@
 -- root of R² - g², where g = h c. Beyond the strip h c ≤ R s. Without the roundings:
 --   r ≥ R c, since r² = R² - g² ≥ R² (1 - s²); so RX = s r + h s² ≥ h (c² + s²) = h                  (edge)
 --   c o = c r + s g ≤ R, by Cauchy's inequality                                                     (rim)
---   (RX - h)² + RY² = o² - 2 h s o + h² = r² + g² = R²                                              (square)
+--   (RX - h)² + RY² = o² - 2 h s o + h² = r² + g² = R²                                              (square, square-high)
 -- The roundings cost a few exact units of length each, so of a square at most the square of a tenth of a millimetre. Assumes nothing.
 use Prim.Native.Nat.{ℕ, _+_, _-_, _*_, _/_, _≤_, _<_}
 use mathlib.Core.Path.{ap, sym}
@@ -188,7 +188,7 @@ module _ {S K k sa ca sa' ca' : ℕ} (scale : Scale S K k) (a : Angle S k sa ca 
           cancel sa ((r + e) * ca) ((y + 1000059) * S) sa-pos
           (omega (arith, mul-le-mul-right ca (q .x-high), mul-le-mul-right S (p .high), mul-le-mul-right S (le-trans (a .c-le) (a .s-far))))
 
-      -- the plan's right triangle
+      -- the plan's right triangle, from either side
       pub square : R * R + 2 * (x * h) ≤ x * x + y * y + h * h + K * K
       square =
           let o : ℕ = r + e in
@@ -232,3 +232,23 @@ module _ {S K k sa ca sa' ca' : ℕ} (scale : Scale S K k) (a : Angle S k sa ca 
                 add-mul ((x + 1) * (x + 1) + (y + 1000059) * (y + 1000059)) (2700000 * o) (S * S),
                 add-mul ((x + 1) * (x + 1)) ((y + 1000059) * (y + 1000059)) (S * S),
               ))
+
+      pub square-high : x * x + y * y + h * h ≤ R * R + 2 * (x * h) + K * K
+      square-high = omega (arith, along, legs, bracket, q .r-low, r-in, e-in, g-in, speck scale, S-pos scale)
+        where
+          along : (r + e) * e ≤ (x + 1) * h
+          along =
+              cancel S ((r + e) * e) ((x + 1) * h) (S-pos scale)
+              (omega (arith, mul-le-mul-left (r + e) (q .e-low), mul-le-mul-right h (q .x-high)))
+
+          legs : h * h ≤ (e + 1) * (e + 1) + (g + 1) * (g + 1) + 900000 * h
+          legs =
+              cancel (S * S) (h * h) ((e + 1) * (e + 1) + (g + 1) * (g + 1) + 900000 * h) (mul-pos (S-pos scale) (S-pos scale))
+              (omega (arith, square-mono (h * sa) ((e + 1) * S) (q .e-high), square-mono (h * ca) ((g + 1) * S) (q .g-high), mul-le-mul-left (h * h) (a .one-low), mul-le-mul-left h (mul-le-mul-right S h-le)))
+
+          bracket : x * x + y * y ≤ (r + e) * (r + e) + 2700000 * (r + e)
+          bracket =
+              let o : ℕ = r + e in
+              let o-le : o ≤ 300000 * S = omega (arith, r-in, e-in) in
+              cancel (S * S) (x * x + y * y) (o * o + 2700000 * o) (mul-pos (S-pos scale) (S-pos scale))
+              (omega (arith, square-mono (x * S) (sa * o) (q .x-low), square-mono (y * S) (o * ca) y-low, mul-le-mul-left (o * o) (a .one-high), mul-le-mul-left o (mul-le-mul-right S o-le)))

@@ -22,7 +22,7 @@ use Rattle.exact.proofs.Quotients.{cancel, over-quot}
 use Rattle.geometry.proofs.Lengths.{square-mul, square-mono, side-le, gap, gap-square}
 use Rattle.geometry.proofs.Scales.{Scale, Near, widen, S-pos, K-pos, few, speck, metres, metres-near, sine-unit, product-near, mul-near}
 use Rattle.geometry.proofs.Angles.{Angle}
-use Rattle.geometry.proofs.Corner.{Eq7, Eq8, Eq20, ca-pos, eq7, eq8, eq20, beside-low, beside-high, g-in, e-in, r-in, x-in, root-far, edge, rim, y-low, y-high, square}
+use Rattle.geometry.proofs.Corner.{Eq7, Eq8, Eq20, ca-pos, eq7, eq8, eq20, beside-low, beside-high, g-in, e-in, r-in, x-in, root-far, edge, rim, y-low, y-high, square, square-high}
 
 -- ---- two roots whose squares and those of g and G, at most d apart, add up to R²
 closer : (g G d : ℕ) → g ≤ G + d → g * g ≤ G * G + 2 * (d * g)
@@ -336,6 +336,31 @@ module _ {S K k sa ca sa' ca' : ℕ} (scale : Scale S K k) (a : Angle S k sa ca 
           either : Dec (h ≤ x) → rjb * S * (rjb * S) ≤ (x - h) * (x - h) + y * y + 2 * (K * K)
           either (yes l) = omega (arith, whole, square-mono (gap x h) (x - h) (omega arith))
           either (no l) = omega (arith, whole, square-mono (gap x h) K (omega (arith, edge scale a q h-le R-le)))
+
+  -- and no more than that
+  pub plan-square-high :
+      (rx S sa ca h rjb - h) * (rx S sa ca h rjb - h) + ry S sa ca (rx S sa ca h rjb) * ry S sa ca (rx S sa ca h rjb)
+      ≤ rjb * S * (rjb * S) + K * K
+  plan-square-high = by-strip (λ x y. (x - h) * (x - h) + y * y ≤ rjb * S * (rjb * S) + K * K) beside beyond
+    where
+      beside : (y : ℕ) → rjb * tangent S sa ca ≤ h → Eq20 sa ca (rjb * tangent S sa ca) y
+          → (rjb * tangent S sa ca - h) * (rjb * tangent S sa ca - h) + y * y ≤ rjb * S * (rjb * S) + K * K
+      beside y l p =
+          omega (
+            arith,
+            square-mono (rjb * tangent S sa ca - h) 0 (omega arith),
+            square-mono y (rjb * S) (beside-low scale a (eq7 scale a rjb) p),
+          )
+
+      beyond : (g e r x y : ℕ) → h < rjb * tangent S sa ca → Eq8 S sa ca h (rjb * S) g e r x → Eq20 sa ca x y
+          → (x - h) * (x - h) + y * y ≤ rjb * S * (rjb * S) + K * K
+      beyond g e r x y out q p =
+          omega (
+            arith,
+            square-high scale a q h-le (mul-le-mul-right S rjb-le) p,
+            gap-square x h,
+            square-mono (x - h) (gap x h) (omega arith),
+          )
 
 -- RX and RY of the program
 pub plan-near : {S K k sa ca sa' ca' h h' rjb : ℕ} → Given S K k sa ca sa' ca' h h' rjb

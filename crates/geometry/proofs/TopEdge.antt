@@ -21,7 +21,7 @@ use Rattle.geometry.proofs.Scales.{Scale, S-pos}
 use Rattle.geometry.proofs.Angles.{Angle, WholeDegree, degrees, scale30}
 use Rattle.geometry.proofs.PlanNear.{rx-beside, place-beside}
 use Rattle.geometry.proofs.Zones.{by-zone}
-use Rattle.geometry.proofs.Reported.{HangingWall, hanging-wall, ceil-above, ceil-least, distance-on, distance-off}
+use Rattle.geometry.proofs.Reported.{HangingWall, hanging-wall, ceil-above, ceil-least, distance-on, distance-off, smaller-right}
 
 -- ---- exact
 -- the root of a square
@@ -141,7 +141,8 @@ reported-top-edge dip azimuth w ztor ranges not-90 = go azimuth not-90 (onHangin
         let o = hanging-wall dip (pos a) e in
         let site-le = fixed-zero dip a w ztor ranges o (λ q. n (ap pos q)) in (
           is .0
-              ∙ larger-same (ceilRoot (0 * 0 + ztor * ztor)) (hangingWallFixed dip a w ztor 0) (le-trans site-le (le-of-eq (sym (ceil-square ztor))))
+              ∙ larger-same (ceilRoot (0 * 0 + ztor * ztor)) _
+              (le-trans (smaller-right _ (hangingWallFixed dip a w ztor 0)) (le-trans site-le (le-of-eq (sym (ceil-square ztor)))))
               ∙ ceil-square ztor,
           is .1 ∙ exact-zero dip a w ztor ranges o (λ q. n (ap pos q)),
         )

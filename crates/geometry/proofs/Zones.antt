@@ -3,6 +3,7 @@
 -- lies above the upper or beyond the lower edge, is (Z s - RX c) + (RX c - Z s - W), each difference stopping at 0. In every zone
 --   R'² = v² + e²                                                                                   (section)
 --   (RX - h)² + Z² ≤ R'², RX - h stopping at 0                                                      (section-square)
+--   R'² ≤ (RX - h)² + (Z + W)²                                                                      (section-above)
 -- Zone A: v² + e² = RX² + Z², a turn. Zone B: e = 0, and with d = RX c - Z s, 0 ≤ d ≤ W, the turn says v² = RX² + Z² - d²; where h ≤ RX
 -- both d² and h² are at most RX h. Zone C: the turn of (RX - h, Z + W s). The roundings cost less than the square of a tenth of a
 -- millimetre. A and B below are S v and S e. Assumes nothing.
@@ -300,3 +301,70 @@ module _ {S K k sd cd sd' cd' : ℕ} (scale : Scale S K k) (d : Angle S k sd cd 
                     let over-x : G ≤ x * cd = omega arith in
                     let over-w : G ≤ w * (S * S) = omega arith in
                     omega (arith, mul-le-mul over-x over-w, mul-le-mul-right (S * S) (rest q))
+
+    -- and no farther than that end lies from it on the plan and ZTOR + W in depth
+    pub section-above :
+        rPrime S sd cd w z x * rPrime S sd cd w z x ≤ (x - w * cd) * (x - w * cd) + (z + w) * S * ((z + w) * S) + K * K
+    section-above = by-zone Goal zone-a zone-b zone-c
+      where
+        X : ℕ
+        X = x - w * cd
+
+        Goal : ℕ → Type 0
+        Goal r = r * r ≤ X * X + (z + w) * S * ((z + w) * S) + K * K
+
+        deepest : z * S + w * sd ≤ (z + w) * S
+        deepest = omega (arith, mul-le-mul-left w (d .s-le))
+
+        zone-a : (r : ℕ) → x * cd ≤ z * S * sd → IsRoot (x * x + z * S * (z * S)) r → Goal r
+        zone-a r l i = omega (arith, i .low, across (decLe (w * cd) x))
+          where
+            h : ℕ
+            h = w * cd
+
+            x-h : x * h ≤ z * w * (S * S)
+            x-h = omega (arith, mul-le-mul-left w l, mul-le-mul-left (z * w * S) (d .s-le))
+
+            across : Dec (h ≤ x) → x * x ≤ X * X + 2 * (z * w * (S * S))
+            across (yes p) = omega (arith, x-h, gap-square x h, square-mono (gap x h) X (omega arith))
+            across (no p) = let q : x ≤ h = omega arith in omega (arith, x-h, mul-le-mul-left x q)
+
+        zone-b : (r : ℕ) → z * S * sd ≤ x * cd + z * cd → x * cd ≤ z * S * sd + w * (S * S) → r * S ≤ offPlane sd cd (z * S) x
+            → offPlane sd cd (z * S) x ≤ (r + 1) * S → Goal r
+        zone-b r l m low high = either (decLe (w * cd) x)
+          where
+            T : ℕ
+            T = z * S + w * sd
+
+            -- over the rupture
+            over : x ≤ w * cd → r ≤ (z + w) * S
+            over p =
+                cancel S r ((z + w) * S) (S-pos scale)
+                (omega (arith, low, mul-le-mul-right sd p, mul-le-mul-left w (mul-le-mul (d .c-le) (d .s-le)), mul-le-mul-left (z * S) (d .c-le)))
+
+            turned-in : w * cd ≤ x → r * S * (r * S) ≤ (X * X + T * T) * (S * S + 9 * S)
+            turned-in p =
+                let back : X + w * cd ≡ x = omega arith in
+                let A-is : X * sd + T * cd ≡ offPlane sd cd (z * S) x = omega (arith, ap (λ (n : ℕ). n * sd) back) in
+                omega (
+                  arith,
+                  square-mono (r * S) (X * sd + T * cd) (omega (arith, low, A-is)),
+                  turn X T sd cd,
+                  mul-le-mul-left (X * X + T * T) (d .one-high),
+                )
+
+            either : Dec (w * cd ≤ x) → Goal r
+            either (no p) = omega (arith, square-mono r ((z + w) * S) (over (omega arith)))
+            either (yes p) =
+                let n : ℕ = X * X + T * T in
+                let T-le : T ≤ 115000 * S = omega (arith, deepest, mul-le-mul-right S z-le, mul-le-mul-right S w-le) in
+                let X-le : X ≤ 1000000 * S = omega arith in
+                let n-le : n ≤ 2000000000000 * (S * S) = omega (arith, mul-le-mul X-le X-le, mul-le-mul T-le T-le) in
+                let whole : r * r ≤ n + 18000000000000 * S =
+                cancel (S * S) (r * r) (n + 18000000000000 * S) (mul-pos (S-pos scale) (S-pos scale))
+                (omega (arith, turned-in p, mul-le-mul-right S n-le)) in
+                omega (arith, whole, square-mono T ((z + w) * S) deepest, speck scale)
+
+        zone-c : (r : ℕ) → z * S * sd + w * (S * S) ≤ x * cd + z * cd
+            → IsRoot ((x - w * cd) * (x - w * cd) + (z * S + w * sd) * (z * S + w * sd)) r → Goal r
+        zone-c r l i = omega (arith, i .low, square-mono (z * S + w * sd) ((z + w) * S) deepest)

@@ -83,12 +83,18 @@ hangingWallFixed dip a w ztor rjb = fromPlanFixed dip w ztor (siteFixed a (proje
 abbrev pub larger : ℕ → ℕ → ℕ
 larger m n = cond (leb m n) n m
 
--- the smallest whole metre not below the root of RJB² + ZTOR², and on the hanging wall RRUP rounded up where that is more
+-- the smaller of two
+abbrev pub smaller : ℕ → ℕ → ℕ
+smaller m n = cond (leb m n) m n
+
+-- the smallest whole metre not below the root of RJB² + ZTOR²; on the hanging wall RRUP rounded up, held between that and the smallest
+-- whole metre not below the root of RJB² + (ZTOR + W)²
 unfoldable pub ruptureDistance : ℕ → ℤ → ℕ → ℕ → ℕ → ℕ
 unfolding hangingWallFixed ceilRoot onHangingWall
 ruptureDistance dip azimuth w ztor rjb =
     let least : ℕ = ceilRoot (rjb * rjb + ztor * ztor) in
+    let most : ℕ = ceilRoot (rjb * rjb + (ztor + w) * (ztor + w)) in
     elim (onHangingWall dip azimuth) [
-      | true ↦ larger least (hangingWallFixed dip (natAbs azimuth) w ztor rjb)
+      | true ↦ larger least (smaller most (hangingWallFixed dip (natAbs azimuth) w ztor rjb))
       | false ↦ least
     ]

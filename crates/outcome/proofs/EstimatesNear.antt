@@ -1,6 +1,6 @@
 -- Each figure that was estimated lies within 2 m of the exact value at the figures completed before it, wherever what its rule reads lies
 -- in range: also where the figure leads to a refusal. What a rule reads lies in range wherever no row before it holds. Assumes nothing.
-use Prim.Native.Nat.{ℕ, _+_, _*_, _≤_}
+use Prim.Native.Nat.{ℕ, _+_, _-_, _*_, _≤_}
 use mathlib.Core.Path.{_≡_}
 use lib.IntN.{pos}
 use Rattle.exact.specs.Near.{NearZ}
@@ -16,7 +16,7 @@ use Rattle.rules.proofs.WidthNear.{widthFixed-near}
 use Rattle.rules.proofs.TopNear.{topFixed-near}
 use Rattle.rules.proofs.BasinNear.{basinFixed-near}
 use Rattle.geometry.specs.Geometry.{ruptureDistanceE, RuptureInRange}
-use Rattle.geometry.proofs.Reported.{reported-near, reported-above}
+use Rattle.geometry.proofs.Reported.{reported-near, reported-above, reported-below}
 use Rattle.outcome.specs.Figures.{orEstimate, style, dip, width, zhypTenths, ztor, rrup, basinOf, z25}
 use Rattle.outcome.specs.Refusals.{sourceGiven, sourceRows, pathGiven}
 use Rattle.outcome.proofs.Ranges.{source-range, source-given, top-range, path-range}
@@ -65,6 +65,16 @@ module _ (r : Request) where
   rrup-above h =
       rw (estimated-is (r .rrup) _ h)
       (reported-above (sizeOf (dip r)) (valueOf (r .azimuth)) (sizeOf (width r)) (sizeOf (ztor r)) (sizeOf (r .rjb)))
+
+  -- ---- and a metre less never above that of RJB² + (ZTOR + W)²
+  pub rrup-below :
+      r .rrup ≡ Blank
+      → (sizeOf (rrup r) - 1) * (sizeOf (rrup r) - 1)
+      ≤ sizeOf (r .rjb) * sizeOf (r .rjb) + (sizeOf (ztor r) + sizeOf (width r)) * (sizeOf (ztor r) + sizeOf (width r))
+  unfolding rrup
+  rrup-below h =
+      rw (estimated-is (r .rrup) _ h)
+      (reported-below (sizeOf (dip r)) (valueOf (r .azimuth)) (sizeOf (width r)) (sizeOf (ztor r)) (sizeOf (r .rjb)))
 
   -- ---- what a rule reads, where no row before it holds
   -- before the row of a completed ZTOR

@@ -20,7 +20,7 @@ unfolding rows markedRows sourceRows sourceGiven pathRows pathGiven siteRows sit
 in-order r = tt
 
 -- of as many rows
-pub row-count : (r : Request) → length (rows r) ≡ 19
+pub row-count : (r : Request) → length (rows r) ≡ 20
 unfolding rows markedRows sourceRows sourceGiven pathRows pathGiven siteRows siteGiven
 row-count r = refl
 

@@ -6,4 +6,5 @@ pub mod Alone
 pub mod OneAnswer
 pub mod Staged
 pub mod SentBackWhole
+pub mod TooFar
 pub mod Origins

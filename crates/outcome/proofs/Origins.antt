@@ -16,13 +16,20 @@ use Rattle.refusals.specs.Order as No
 use Rattle.outcome.specs.declared.Completion.{Completion}
 use Rattle.outcome.specs.declared.Completion.the-variants as C
 use Rattle.outcome.specs.Figures.{style, dip, width, zhyp, tenthsOf, zhypTenths, ztor, rrup, basinOf, z25}
-use Rattle.outcome.specs.Refusals.{markedRows, sourceGiven, sourceRows, aboveRupture, pathGiven, tooShort, pathRows, siteGiven, siteRows, rows, refusal}
+use Rattle.outcome.specs.Refusals.{markedRows, sourceGiven, sourceRows, aboveRupture, pathGiven, tooShort, tooFar, pathRows, siteGiven, siteRows, rows, refusal}
 use Rattle.outcome.specs.Answers.{completed, answer, completionOf, numberOf}
 use Rattle.outcome.specs.Forgotten.{forgotten}
 use Rattle.outcome.proofs.FigureLaws.{six, completed-alike}
 
 joined : {a b c d : Rows} → a ≡ c → b ≡ d → a ++ b ≡ c ++ d
 joined h k = rw (h, k)
+
+-- the rows of the path that read completed figures, by what they read
+abbrev lengths : ℕ → Bool → Bool → Rows
+lengths n short far = (No.rrup, ltb 200000 n) ∷ (No.tooShort, short) ∷ (No.tooFar, far) ∷ []
+
+lengths-same : {m n : ℕ} {a b c d : Bool} → m ≡ n → a ≡ b → c ≡ d → lengths m a c ≡ lengths n b d
+lengths-same h k l = rw (h, k, l)
 
 module _ (r : Request) where
   -- ---- the figures
@@ -124,12 +131,22 @@ module _ (r : Request) where
   short-same =
       rw (given-alike (r .rrup), size-alike (r .rrup), size-alike (r .rjb), ztor-alike, size-alike (ztor r))
 
+  far-same : tooFar (forget r) ≡ tooFar r
+  unfolding tooFar forget each
+  far-same =
+      rw (
+        given-alike (r .rrup),
+        size-alike (r .rrup),
+        size-alike (r .rjb),
+        ztor-alike,
+        size-alike (ztor r),
+        width-alike,
+        size-alike (width r),
+      )
+
   path-same : pathRows (forget r) ≡ pathRows r
   unfolding pathRows
-  path-same =
-      joined path-given-same
-      (ap (λ (n : ℕ). (No.rrup, ltb 200000 n) ∷ (No.tooShort, tooShort (forget r)) ∷ []) (ap sizeOf rrup-alike ∙ size-alike (rrup r))
-      ∙ ap (λ (t : Bool). (No.rrup, ltb 200000 (sizeOf (rrup r))) ∷ (No.tooShort, t) ∷ []) short-same)
+  path-same = joined path-given-same (lengths-same (ap sizeOf rrup-alike ∙ size-alike (rrup r)) short-same far-same)
 
   site-given-same : siteGiven (forget r) ≡ siteGiven r
   unfolding siteGiven forget each

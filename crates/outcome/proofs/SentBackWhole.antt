@@ -1,14 +1,15 @@
 -- A completed request sent again, what we estimated in it marked as inferred, is accepted with the same numbers and nothing estimated. Each
 -- row of the table is silent on it: the figures are in their ranges, which are the same for given and completed ones; a site is refused
--- as above the rupture only where RRUP is blank; and a completed RRUP is not below the root of RJB² + ZTOR², so it is not too short. Sent
--- again as it stands it is refused for what we estimated; where nothing was, it is the request itself. Assumes nothing.
-use Prim.Native.Nat.{ℕ, _+_, _*_, _≤_}
+-- as above the rupture only where RRUP is blank; and a completed RRUP is not below the root of RJB² + ZTOR², so it is not too short, and a
+-- metre less not above that of RJB² + (ZTOR + W)², so it is not too long. Sent again as it stands it is refused for what we estimated;
+-- where nothing was, it is the request itself. Assumes nothing.
+use Prim.Native.Nat.{ℕ, _+_, _-_, _*_, _≤_}
 use mathlib.Core.Path.{_≡_, sym, ap, _∙_}
-use mathlib.Core.Bool.{true, false, not, and-false}
+use mathlib.Core.Bool.{true, false, not, _&&_, and-false}
 use mathlib.Core.List.{[]}
 use mathlib.Core.Logic.{⊎-elim}
 use native.Mathlib.Omega.{arith}
-use lib.Dec.{ltb}
+use lib.Dec.{leb, ltb}
 use lib.IntN.{pos, negsuc}
 use borrow.Author.Tests.{le-ltb, ltb-false}
 use Rattle.exact.proofs.Root.{square-one}
@@ -24,14 +25,15 @@ use Rattle.refusals.proofs.Rows.{clear, nothing, skip, first-both}
 use Rattle.outcome.specs.declared.Completion.{Completion}
 use Rattle.outcome.specs.declared.Completion.the-variants as C
 use Rattle.outcome.specs.Figures.{style, dip, width, zhyp, ztor, rrup, z25}
-use Rattle.outcome.specs.Refusals.{sourceGiven, sourceRows, aboveRupture, pathGiven, tooShort, pathRows, siteGiven, siteRows, refusal}
+use Rattle.outcome.specs.Refusals.{sourceGiven, sourceRows, aboveRupture, pathGiven, tooShort, tooFar, pathRows, siteGiven, siteRows, refusal}
 use Rattle.outcome.specs.Answers.{completed, completionOf}
 use Rattle.outcome.specs.SentBack.{sentBack}
 use Rattle.outcome.proofs.FigureLaws.{six, given-stays, given-or-blank, not-estimated, within-back, allowed-back, figure-back, stays-back, not-blank-back}
 use Rattle.outcome.proofs.Ranges.{SourceRange, source-range, source-given, top-range}
 use Rattle.outcome.proofs.ExactlyWhen.{path-numbered, Stages, stages, accepted-refusal, accepted-by}
-use Rattle.outcome.proofs.EstimatesNear.{rrup-above}
+use Rattle.outcome.proofs.EstimatesNear.{rrup-above, rrup-below}
 use Rattle.outcome.proofs.Staged.{marked-tells, unmarked, all-silent}
+use Rattle.outcome.proofs.TooFar.{not-longer}
 
 -- ---- marked as inferred
 -- nothing is estimated in what is sent back
@@ -141,12 +143,13 @@ module _ (r : Request) (accepted : refusal r ≡ 0) where
       (skip _ _ _ ztor-allowed
       (skip _ _ _ not-deep nothing)))))))
 
-  path-rows : (first (pathGiven r) ≡ 0) × (ltb 200000 (sizeOf (rrup r)) ≡ false) × (tooShort r ≡ false)
+  path-rows : (first (pathGiven r) ≡ 0) × (ltb 200000 (sizeOf (rrup r)) ≡ false) × (tooShort r ≡ false) × (tooFar r ≡ false)
   unfolding pathRows
   path-rows =
       let t = first-both (pathGiven r) _ (path-numbered r) (at .path) in
       let c11 = clear _ _ (t .1) tt in
-      (t .0, c11 .0, clear _ [] (c11 .1) tt .0)
+      let c12 = clear _ _ (c11 .1) tt in
+      (t .0, c11 .0, c12 .0, clear _ [] (c12 .1) tt .0)
 
   pub kept-path :
       (not (within (r .rjb) (pos 0) (pos 200000)) ≡ false) × (not (within (r .azimuth) (negsuc 179) (pos 180)) ≡ false)
@@ -195,6 +198,29 @@ module _ (r : Request) (accepted : refusal r ≡ 0) where
   unfolding tooShort
   not-short = rw (rrup-sent, rjb-sent, ztor-back r, size-inferred (ztor r), le-ltb _ _ long-enough) (and-false (isGiven (sentBack r .rrup)))
 
+  -- one metre shorter, it does not reach beyond the bottom
+  abbrev N : ℕ
+  N =
+      sizeOf (r .rjb) * sizeOf (r .rjb) + (sizeOf (ztor r) + sizeOf (width r)) * (sizeOf (ztor r) + sizeOf (width r))
+
+  tested-far : isGiven (r .rrup) ≡ true → leb 1 (sizeOf (r .rrup)) && ltb N ((sizeOf (r .rrup) - 1) * (sizeOf (r .rrup) - 1)) ≡ false
+  unfolding tooFar
+  tested-far g = rw g at (path-rows .3)
+
+  given-far : isGiven (r .rrup) ≡ true → (sizeOf (rrup r) - 1) * (sizeOf (rrup r) - 1) ≤ N
+  given-far g = rw (itself g) (not-longer (sizeOf (r .rrup)) N (tested-far g))
+
+  pub short-enough :
+      (sizeOf (rrup r) - 1) * (sizeOf (rrup r) - 1)
+      ≤ sizeOf (r .rjb) * sizeOf (r .rjb) + (sizeOf (ztor r) + sizeOf (width r)) * (sizeOf (ztor r) + sizeOf (width r))
+  short-enough = ⊎-elim given-far (rrup-below r) (given-or-blank (r .rrup) (pos 0) (pos 200000) (kept-path .2))
+
+  not-long : tooFar (sentBack r) ≡ false
+  unfolding tooFar
+  not-long =
+      rw (rrup-sent, rjb-sent, ztor-back r, size-inferred (ztor r), width-back r, size-inferred (width r), le-ltb _ _ short-enough, and-false (leb 1 (sizeOf (rrup r))))
+      (and-false (isGiven (sentBack r .rrup)))
+
   rrup-allowed : not (allowed (asInferred (rrup r)) (pos 0) (pos 200000)) ≡ false
   unfolding rrup
   rrup-allowed = figure-back (r .rrup) _ 0 200000 (kept-path .2) (omega arith) rrup-high
@@ -210,7 +236,8 @@ module _ (r : Request) (accepted : refusal r ≡ 0) where
       (skip _ _ _ (not-above r)
       (skip _ _ _ rrup-allowed
       (skip _ _ _ not-far
-      (skip _ _ _ not-short nothing)))))
+      (skip _ _ _ not-short
+      (skip _ _ _ not-long nothing))))))
 
   pub site-rows :
       (not (allowed (r .z10) (pos 0) (pos 10000)) ≡ false) × (not (allowed (r .z15) (pos 0) (pos 10000)) ≡ false)

@@ -17,7 +17,7 @@ use Rattle.outcome.specs.declared.Completion.the-variants as C
 use Rattle.outcome.specs.Figures.{ztor, rrup, z25}
 use Rattle.refusals.specs.Order.{Rows, first}
 use Rattle.refusals.specs.Order as No
-use Rattle.outcome.specs.Refusals.{markedRows, sourceGiven, sourceCompleted, sourceRows, tooShort, pathGiven, pathCompleted, pathRows, siteGiven, siteCompleted, siteRows, rows, refusal}
+use Rattle.outcome.specs.Refusals.{markedRows, sourceGiven, sourceCompleted, sourceRows, tooShort, tooFar, pathGiven, pathCompleted, pathRows, siteGiven, siteCompleted, siteRows, rows, refusal}
 use Rattle.outcome.specs.Answers.{answer, completionOf, numberOf}
 use Rattle.outcome.specs.Stages.{sourceFigures, sourceAnswer, sourceAnswerOf, figureAnswer, pathAnswerOf, siteAnswerOf}
 use Rattle.refusals.proofs.Rows.{numbered, nothing, skip, holds, passes, three, first-after, first-before, first-absent}
@@ -78,31 +78,45 @@ pub path-refused : (r : Request) (n : ℕ) → n ≡ first (pathGiven r) → 0 <
 unfolding pathAnswerOf pathRows
 path-refused r n e h = figure-number (first (pathRows r)) n (rrup r) (stops (pathGiven r) (pathCompleted r) n e h) h
 
+-- where the rows that read given figures are silent, those that read completed ones decide
+completed-path : (r : Request) → first (pathGiven r) ≡ 0 → first (pathRows r) ≡ first (pathCompleted r)
+unfolding pathRows
+completed-path r e = first-after (pathGiven r) (pathCompleted r) (path-numbered r) e
+
+-- the rows behind that of a completed RRUP, and behind that of one too short
+abbrev pathGivenLengths : Request → Rows
+pathGivenLengths r = (No.tooShort, tooShort r) ∷ (No.tooFar, tooFar r) ∷ []
+
+abbrev pathLast : Request → Rows
+pathLast r = (No.tooFar, tooFar r) ∷ []
+
 pub path-far : (r : Request) → first (pathGiven r) ≡ 0 → 200000 < sizeOf (rrup r) → F.Refused No.rrup ≡ pathAnswerOf r
-unfolding pathAnswerOf pathRows
-path-far r e h =
-    figure-number (first (pathRows r)) No.rrup (rrup r)
-    (first-after (pathGiven r) (pathCompleted r) (path-numbered r) e
-    ∙ holds _ _ ((No.tooShort, tooShort r) ∷ []) (lt-ltb _ _ h))
-    (omega arith)
+unfolding pathAnswerOf
+path-far r e h = figure-number (first (pathRows r)) No.rrup (rrup r) (completed-path r e ∙ holds _ _ (pathGivenLengths r) (lt-ltb _ _ h)) (omega arith)
 
 pub path-short : (r : Request) → first (pathGiven r) ≡ 0 → sizeOf (rrup r) ≤ 200000 → tooShort r ≡ true → F.Refused No.tooShort ≡ pathAnswerOf r
-unfolding pathAnswerOf pathRows
+unfolding pathAnswerOf
 path-short r e h t =
     figure-number (first (pathRows r)) No.tooShort (rrup r)
-    (first-after (pathGiven r) (pathCompleted r) (path-numbered r) e
-    ∙ passes _ _ ((No.tooShort, tooShort r) ∷ []) (le-ltb _ _ h)
-    ∙ holds _ _ [] t)
+    (completed-path r e ∙ passes _ _ (pathGivenLengths r) (le-ltb _ _ h) ∙ holds _ _ (pathLast r) t)
+    (omega arith)
+
+pub path-long :
+    (r : Request) → first (pathGiven r) ≡ 0 → sizeOf (rrup r) ≤ 200000 → tooShort r ≡ false → tooFar r ≡ true
+    → F.Refused No.tooFar ≡ pathAnswerOf r
+unfolding pathAnswerOf
+path-long r e h s t =
+    figure-number (first (pathRows r)) No.tooFar (rrup r)
+    (completed-path r e ∙ passes _ _ (pathGivenLengths r) (le-ltb _ _ h) ∙ passes No.tooShort _ (pathLast r) s ∙ holds _ _ [] t)
     (omega arith)
 
 pub path-known :
-    (r : Request) → first (pathGiven r) ≡ 0 → sizeOf (rrup r) ≤ 200000 → tooShort r ≡ false
+    (r : Request) → first (pathGiven r) ≡ 0 → sizeOf (rrup r) ≤ 200000 → tooShort r ≡ false → tooFar r ≡ false
     → F.Known (rrup r) ≡ pathAnswerOf r
-unfolding pathAnswerOf pathRows
-path-known r e h t =
+unfolding pathAnswerOf
+path-known r e h s t =
     figure-known (first (pathRows r)) (rrup r)
-    (first-after (pathGiven r) (pathCompleted r) (path-numbered r) e
-    ∙ skip _ _ ((No.tooShort, tooShort r) ∷ []) (le-ltb _ _ h) (skip _ _ [] t nothing))
+    (completed-path r e ∙ skip _ _ (pathGivenLengths r) (le-ltb _ _ h) (skip No.tooShort _ (pathLast r) s (skip No.tooFar _ [] t nothing)))
 
 -- ---- the site
 site-numbered : (r : Request) → T (numbered (siteGiven r))

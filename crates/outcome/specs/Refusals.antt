@@ -1,16 +1,16 @@
 -- The table of a request's refusals, in the order tested: a row is a refusal's number and whether its condition holds. A number stands
 -- in several rows where it reads several figures, or a given one and a completed one. Definitions only.
-use Prim.Native.Nat.{ℕ, _+_, _*_}
+use Prim.Native.Nat.{ℕ, _+_, _-_, _*_}
 use mathlib.Core.Bool.{Bool, not, _&&_}
 use mathlib.Core.List.{[], _∷_, _++_}
-use lib.Dec.{ltb}
+use lib.Dec.{leb, ltb}
 use lib.IntN.{pos, negsuc}
 use Rattle.refusals.specs.Order.{Rows, first}
 use Rattle.refusals.specs.Order as No
 use Rattle.request.specs.declared.Request.{Request}
 use Rattle.request.specs.Fields.{isGiven, isBlank, sizeOf, within, allowed, marked}
 use Rattle.request.specs.Styles.{topMagnitude}
-use Rattle.outcome.specs.Figures.{style, dip, ztor, rrup, z25}
+use Rattle.outcome.specs.Figures.{style, dip, width, ztor, rrup, z25}
 
 -- ---- what comes before all else
 -- a figure is already marked as estimated by us
@@ -61,11 +61,20 @@ tooShort r =
     let d : ℕ = sizeOf (r .rrup) + 1 in
     isGiven (r .rrup) && ltb (d * d) (sizeOf (r .rjb) * sizeOf (r .rjb) + sizeOf (ztor r) * sizeOf (ztor r))
 
+-- a given RRUP, at least 1, is longer than any way from the site to the rupture, whose nearest point is no deeper than ZTOR + W
+unfoldable pub tooFar : Request → Bool
+unfolding isGiven sizeOf ztor width
+tooFar r =
+    let d : ℕ = sizeOf (r .rrup) - 1 in
+    let deepest : ℕ = sizeOf (ztor r) + sizeOf (width r) in
+    isGiven (r .rrup)
+    && (leb 1 (sizeOf (r .rrup)) && ltb (sizeOf (r .rjb) * sizeOf (r .rjb) + deepest * deepest) (d * d))
+
 abbrev pub pathCompleted : Request → Rows
-pathCompleted r = (No.rrup, ltb 200000 (sizeOf (rrup r))) ∷ (No.tooShort, tooShort r) ∷ []
+pathCompleted r = (No.rrup, ltb 200000 (sizeOf (rrup r))) ∷ (No.tooShort, tooShort r) ∷ (No.tooFar, tooFar r) ∷ []
 
 unfoldable pub pathRows : Request → Rows
-unfolding pathGiven tooShort rrup sizeOf
+unfolding pathGiven tooShort tooFar rrup sizeOf
 pathRows r = pathGiven r ++ pathCompleted r
 
 -- ---- the site

@@ -12,11 +12,11 @@ use request::size_of;
 use request::value_of;
 use rupture::rupture_distance;
 ghost use mathlib.Core.Path.{_≡_};
-ghost use Prim.Native.Nat.{_≤_};
+ghost use Prim.Native.Nat.{_-_, _≤_};
 ghost use Rattle.request.specs.Fields.{sizeOf};
-ghost use Rattle.outcome.specs.Figures.{dip, ztor, rrup};
+ghost use Rattle.outcome.specs.Figures.{dip, width, ztor, rrup};
 ghost use Rattle.refusals.specs.Order.{first};
-ghost use Rattle.outcome.specs.Refusals.{sourceRows, aboveRupture, pathGiven, tooShort};
+ghost use Rattle.outcome.specs.Refusals.{sourceRows, aboveRupture, pathGiven, tooShort, tooFar};
 ghost use Rattle.outcome.specs.Stages.{sourceFigures, pathAnswerOf};
 
 // Whether the site is above the rupture, whose completed dip is d: no distance follows from RJB there.
@@ -77,6 +77,29 @@ fn is_too_short(r: Request, z: u64) -> bool
     d * d < rjb * rjb + z * z
 }
 
+// A whole number less one, 0 for 0.
+fn one_less(n: u64) -> u64
+    ensures { λ r. ⌜ r ≡ n - 1 ⌝ }
+{
+    if n < 1 { 0 } else { n - 1 }
+}
+
+// Whether a given RRUP is too long, even one metre shorter, for a rupture of width w whose top is at z.
+fn is_too_far(r: Request, w: u64, z: u64) -> bool
+    requires { ⌜ (w ≡ sizeOf (width r)) × (z ≡ sizeOf (ztor r)) × (w ≤ 100000) × (z ≤ 15000) × (sizeOf (r .rjb) ≤ 200000) × (sizeOf (r .rrup) ≤ 200000) ⌝ }
+    ensures { λ a. ⌜ a ≡ tooFar r ⌝ }
+{
+    let rrup = r.rrup;
+    if !is_given(rrup) {
+        return false;
+    }
+    let d = one_less(size_of(rrup));
+    let field = r.rjb;
+    let rjb = size_of(field);
+    let deepest = z + w;
+    rjb * rjb + deepest * deepest < d * d
+}
+
 // The length of a path whose given figures are in their ranges: RRUP as it stands, or its estimate.
 fn known_length(r: Request, s: Source) -> u64
     requires { ⌜ (s ≡ sourceFigures r) × (first (sourceRows r) ≡ 0) × (first (pathGiven r) ≡ 0) ⌝ }
@@ -123,8 +146,13 @@ pub fn complete_path(r: Request, s: Source) -> FigureAnswer
         return FigureAnswer::Refused(refusals::RRUP);
     }
     let ztor = s.ztor;
-    if is_too_short(r, size_of(ztor)) {
+    let z = size_of(ztor);
+    if is_too_short(r, z) {
         return FigureAnswer::Refused(refusals::TOO_SHORT);
+    }
+    let width = s.w;
+    if is_too_far(r, size_of(width), z) {
+        return FigureAnswer::Refused(refusals::TOO_FAR);
     }
     FigureAnswer::Known(known_path(r, d))
 }

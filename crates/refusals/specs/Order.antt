@@ -55,6 +55,10 @@ rrup = 11
 abbrev pub tooShort : ℕ
 tooShort = 12
 
+-- a given RRUP that is too long for the fault
+abbrev pub tooFar : ℕ
+tooFar = 18
+
 -- Z1.0, Z1.5 or Z2.5, the last given or completed
 abbrev pub basin : ℕ
 basin = 13
@@ -88,6 +92,7 @@ order =
     ∷ above
     ∷ rrup
     ∷ tooShort
+    ∷ tooFar
     ∷ basin
     ∷ noMeasure
     ∷ noPeriod

@@ -44,6 +44,9 @@ pub const RRUP: u32 = 11;
 // A given distance to the rupture that is too short.
 pub const TOO_SHORT: u32 = 12;
 
+// A given distance to the rupture that is too long for the fault.
+pub const TOO_FAR: u32 = 18;
+
 // A depth of the basin, given or completed.
 pub const BASIN: u32 = 13;
 

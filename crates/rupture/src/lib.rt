@@ -7,7 +7,7 @@ mod section;
 ghost use mathlib.Core.Path.{_≡_};
 ghost use Prim.Native.Nat.{_+_, _*_, _≤_, _<_};
 ghost use Rattle.geometry.specs.Geometry.{ceilRoot, onHangingWall, RuptureInRange};
-ghost use Rattle.geometry.specs.Fixed.{hangingWallFixed, larger, ruptureDistance};
+ghost use Rattle.geometry.specs.Fixed.{hangingWallFixed, larger, smaller, ruptureDistance};
 use plan::projected_width;
 use plan::site;
 use reckon::cos_deg;
@@ -30,6 +30,13 @@ fn larger_of(m: u64, n: u64) -> u64
     if m <= n { n } else { m }
 }
 
+// The smaller of two.
+fn smaller_of(m: u64, n: u64) -> u64
+    ensures { λ r. ⌜ r ≡ smaller m n ⌝ }
+{
+    if m <= n { m } else { n }
+}
+
 // A vertical fault has no hanging wall; azimuths of 0 and 180 are in line with the top edge, and
 // negative ones on the footwall.
 fn on_hanging_wall(dip: u64, azimuth: i64) -> bool
@@ -47,14 +54,18 @@ fn hanging_wall(dip: u64, azimuth: u64, w: u64, ztor: u64, rjb: u64) -> u64
     from_plan(dip, w, ztor, site(azimuth, h, rjb))
 }
 
-// RRUP in whole metres, never below the root of RJB² + ZTOR².
+// RRUP in whole metres, never below the root of RJB² + ZTOR². A metre less it is never above that of
+// RJB² + (ZTOR + W)², so that no given RRUP that was reported is refused as too long.
 pub fn rupture_distance(dip: u64, azimuth: i64, w: u64, ztor: u64, rjb: u64) -> u64
     requires { ⌜ RuptureInRange dip w ztor rjb ⌝ }
     ensures { λ r. ⌜ r ≡ ruptureDistance dip azimuth w ztor rjb ⌝ }
 {
     let least = ceil_root(rjb * rjb + ztor * ztor);
     if on_hanging_wall(dip, azimuth) {
-        return larger_of(least, hanging_wall(dip, azimuth as u64, w, ztor, rjb));
+        let deepest = ztor + w;
+        let most = ceil_root(rjb * rjb + deepest * deepest);
+        let d = hanging_wall(dip, azimuth as u64, w, ztor, rjb);
+        return larger_of(least, smaller_of(most, d));
     }
     least
 }

@@ -6,11 +6,11 @@ use Rattle.request.specs.Fields.{sizeOf}
 use Rattle.outcome.specs.declared.Source.{Source}
 use Rattle.outcome.specs.declared.FigureAnswer.the-variants as F
 use Rattle.refusals.specs.Order.{first}
-use Rattle.outcome.specs.Figures.{ztor}
+use Rattle.outcome.specs.Figures.{width, ztor}
 use Rattle.outcome.specs.Refusals.{pathGiven}
 use Rattle.outcome.specs.Stages.{sourceFigures}
-use Rattle.outcome.proofs.Ranges.{top-range, path-range}
-use Rattle.outcome.proofs.Staged.{path-refused, path-far, path-short, path-known}
+use Rattle.outcome.proofs.Ranges.{source-range, source-given, top-range, path-range}
+use Rattle.outcome.proofs.Staged.{path-refused, path-far, path-short, path-long, path-known}
 use Rattle.path_stage.proofs.complete_path.Statement.{statement}
 use Rattle.path_stage.proofs.complete_path.Tie as tie
 
@@ -54,17 +54,43 @@ returns-3 c = let t = c .before in
     path-short (k .before .before .before .before .args .r) (silent (k .before)) (rw (k .known-length .ensures) at (far .if2 .left))
     (sym (t .is-too-short .ensures) ∙ c .if3 .taken)
 
+size-of-requires-3 : tie.Need-size-of-requires-3
+size-of-requires-3 c κs = search needs
+
+width-is : (c : tie.After-size-of3) → c .size-of3 .result ≡ sizeOf (width (c .before .before .before .before .before .before .before .before .before .args .r))
+unfolding sourceFigures
+width-is c = c .size-of3 .ensures ∙ ap (λ (s : Source). sizeOf (s .w)) (c .before .before .before .before .before .before .before .before .before .pre .0)
+
+is-too-far-requires : tie.Need-is-too-far-requires
+is-too-far-requires c κs = let t = c .before .before .before in
+    let e = t .before .before .before in
+    let s = e .before .before .before in
+    let path = path-range (s .args .r) (silent e) in
+    rw (width-is c, top-is t)
+    (refl, refl, source-range (s .args .r) (source-given (s .args .r) (s .pre .1)) .w-high, top-range (s .args .r) (s .pre .1), path .rjb-high, path .rrup-given)
+
+returns-4 : tie.Need-returns-4
+returns-4 c = let l = c .before in
+    let e = l .before .before in
+    let t = e .before in
+    let far = t .before .before in
+    let k = far .before in
+    path-long (k .before .before .before .before .args .r) (silent (k .before)) (rw (k .known-length .ensures) at (far .if2 .left))
+    (sym (t .is-too-short .ensures) ∙ e .if3 .left) (sym (l .is-too-far .ensures) ∙ c .if4 .taken)
+
 known-path-requires : tie.Need-known-path-requires
 known-path-requires c κs = search needs
 
-returns-4 : tie.Need-returns-4
-returns-4 c = let e = c .before in
+returns-5 : tie.Need-returns-5
+returns-5 c = let f = c .before in
+    let l = f .before in
+    let e = l .before .before in
     let t = e .before in
     let far = t .before .before in
     let k = far .before in
     ap F.Known (c .known-path .ensures)
     ∙ path-known (k .before .before .before .before .args .r) (silent (k .before)) (rw (k .known-length .ensures) at (far .if2 .left))
-    (sym (t .is-too-short .ensures) ∙ e .if3 .left)
+    (sym (t .is-too-short .ensures) ∙ e .if3 .left) (sym (l .is-too-far .ensures) ∙ f .if4 .left)
 
 pub complete-path-spec : {M : Type 1} → statement M
 complete-path-spec =
@@ -78,5 +104,8 @@ complete-path-spec =
     size-of-requires-2
     is-too-short-requires
     returns-3
+    size-of-requires-3
+    is-too-far-requires
+    returns-4
     known-path-requires
-    returns-4)
+    returns-5)
