@@ -66,8 +66,14 @@ is-too-far-requires c κs = let t = c .before .before .before in
     let e = t .before .before .before in
     let s = e .before .before .before in
     let path = path-range (s .args .r) (silent e) in
-    rw (width-is c, top-is t)
-    (refl, refl, source-range (s .args .r) (source-given (s .args .r) (s .pre .1)) .w-high, top-range (s .args .r) (s .pre .1), path .rjb-high, path .rrup-given)
+    let source = source-range (s .args .r) (source-given (s .args .r) (s .pre .1)) in (
+      width-is c,
+      top-is t,
+      omega (arith, width-is c, source .w-high),
+      omega (arith, top-is t, top-range (s .args .r) (s .pre .1)),
+      path .rjb-high,
+      path .rrup-given,
+    )
 
 returns-4 : tie.Need-returns-4
 returns-4 c = let l = c .before in
