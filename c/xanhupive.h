@@ -98,7 +98,7 @@ extern "C" {
  * most: the square root, by quarters of its number, stands on the stack 33 times, the series of the sine 8 times, the
  * digits of a number 20 times.
  */
-#define XANHUPIVE_STACK_COMPLETE_LINE 4864
+#define XANHUPIVE_STACK_COMPLETE_LINE 4880
 #define XANHUPIVE_STACK_PREDICT_LINE 5968
 #define XANHUPIVE_STACK_MEASURE 1664
 #define XANHUPIVE_STACK_SPECTRUM 6784

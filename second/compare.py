@@ -19,6 +19,9 @@ path is given. Exit 1 on any difference beyond its bound:
   figures before it; --rounded as they are rounded, W, ZTOR and Z2.5 down, RRUP up, with 5 mm to spare;
 - a refusal: the same number. The one exception is document 01's: where a completed figure is read, the second program is asked at each
   whole metre that the figure's bound allows, and the first program must have answered as one of these;
+- RRUP: in an accepted request, given or estimated, it must be neither too short (12) nor too long (18) at the figures of the answer; a given
+  one that both programs turn away with 12 or 18 must be so at the second program's. A long list must have the longest that is let through
+  and the shortest that is too long, with W and ZTOR each measured, inferred and blank;
 - ln median and each sigma: one in the sixth place; a median Y: 1 + Y/500000, and at least 1; from the second program's figure before it
   is rounded, at the figures that the first completed. What each measure has at worst is told. The predicting program prints ln
   median, median and total sigma; --rows names a program that prints all six figures of a row, as c/rows.c does with the static
@@ -34,6 +37,7 @@ path is given. Exit 1 on any difference beyond its bound:
 import argparse
 import bisect
 import collections
+import math
 import os
 import re
 import sys
@@ -74,6 +78,9 @@ Answer = collections.namedtuple("Answer", "refusal figures letters exact")
 # where a predicted figure stands, of which program.
 Timed = collections.namedtuple("Timed", "period line completed raised")
 Place = collections.namedtuple("Place", "program period")
+# A given RRUP at the limit of 18: where W and ZTOR come from, and by how much it is longer than the longest that is let through.
+Limit = collections.namedtuple("Limit", "w ztor side")
+SIDES = {0: "the longest that are let through", 1: "a metre longer"}
 
 
 class Report:
@@ -213,13 +220,30 @@ def at_figures(fields, figures, names):
     return {**fields, **{name: figures[name] for name in names}}
 
 
+def place_of(line, figures):
+    """What an RRUP is tested by: RJB of a line, ZTOR and W completed."""
+    return int(measured(line.split(b" ")[NAMES.index("rjb")])), figures["ztor"], figures["w"]
+
+
+def longest(rjb, ztor, w):
+    """The longest RRUP that is let through: that less a metre is the root, rounded down, of what 18 has beside it."""
+    return math.isqrt(rjb**2 + (ztor + w) ** 2) + 1
+
+
+def length_refusal(rrup, rjb, ztor, w):
+    """12 for an RRUP that is too short, 18 for one that is too long, else 0."""
+    return 12 if (rrup + 1) ** 2 < rjb**2 + ztor**2 else 18 if rrup > longest(rjb, ztor, w) else 0
+
+
 def distances(fields, untested):
-    """The whole metres that document 01 allows for an RRUP: one at a vertical fault and off the hanging wall, else those in its bound."""
-    azimuth, least = int(fields["azimuth"]), int(fields["rjb"]) ** 2 + fields["ztor"] ** 2
+    """The whole metres that an RRUP may be: one at a vertical fault and off the hanging wall, else those in its bound that are not below the
+    root of RJB² + ZTOR² and that would not be too long if they came back."""
+    rjb, azimuth = int(fields["rjb"]), int(fields["azimuth"])
     if fields["dip"] == 90 or azimuth <= 0 or azimuth == 180:
         return [untested.figures["rrup"]]
     low, high = -(-untested.exact["rrup"] // 1000) - METRES, untested.exact["rrup"] // 1000 + METRES
-    return [r for r in range(max(0, low), high + 1) if r * r >= least]
+    most = longest(rjb, fields["ztor"], fields["w"])
+    return [r for r in range(max(0, low), min(high, most) + 1) if r * r >= rjb**2 + fields["ztor"] ** 2]
 
 
 class Comparison:
@@ -240,12 +264,15 @@ class Comparison:
             return [], []
         got, apart = [answer(line) for line in mine], []
         for line, p, a, b, e in zip(lines, got, mine, theirs, exact):
-            if p is None:
-                report.fail(line, f"another form: {a!r}")
-            elif a != b:
+            s = answer(e)
+            if p is None or s is None:
+                report.fail(line, f"another form: {a!r}, or of the second program: {e!r}")
+                continue
+            self.at_limit(line, s)
+            if a != b:
                 apart.append(self.apart(line, p, answer(b)))
-            elif p.refusal == 0:
-                self.estimates(line, p, answer(e))
+            else:
+                self.alike(line, p, s)
         report.count["apart"] = len(apart)
         self.converse(apart)
         self.records(data, lines, theirs)
@@ -303,11 +330,27 @@ class Comparison:
                     pass
             waiting = further
 
-    def estimates(self, line, p, s):
-        """The estimated figures of an answer that both programs gave."""
-        for name, letter in zip(COLUMNS[1:], p.letters[1:]):
+    def at_limit(self, line, s):
+        """Counts a given RRUP at the limit of 18, by the second program's untested figures."""
+        words = dict(zip(NAMES, line.split(b" ")))
+        side = s.figures["rrup"] - longest(*place_of(line, s.figures)) if s.refusal == 0 and words["rrup"] != b"-" else None
+        if side in SIDES:
+            self.report.count[Limit(origin_of(words["w"]), origin_of(words["ztor"]), side)] += 1
+
+    def alike(self, line, p, s):
+        """Checks an answer that both programs gave: its estimated figures, and its RRUP by 12 and 18, at the second program's untested figures
+        where the answer has none."""
+        if p.refusal == 0 and s.refusal:
+            self.report.fail(line, f"{p}, of which the second program's untested figures are {s}")
+            return
+        for name, letter in zip(COLUMNS[1:], (p.letters or b"")[1:]):
             if letter == ord("e"):
                 self.report.estimate(line, name, p.figures[name], s.exact[name])
+        if p.refusal in (0, 12, 18) and s.refusal == 0:
+            figures = p.figures or s.figures
+            wanted = length_refusal(figures["rrup"], *place_of(line, figures))
+            if p.refusal != wanted:
+                self.report.fail(line, f"{p}, whose RRUP must get {wanted}")
 
     def apart(self, line, p, s):
         """Judges an answer that differs; only one that reads estimated figures may, and only as their bounds allow."""
@@ -316,7 +359,7 @@ class Comparison:
         if 14 in (p.refusal, s.refusal) or p.letters and s.letters and p.letters != s.letters:
             return report.fail(line, words)
         fields = fields_of(measured(line))
-        harmless = {"rjb": 0, "azimuth": 0, "rrup": 200000, "z10": "-", "z15": "-", "z25": 0}
+        harmless = {"rjb": 0, "azimuth": 0, "rrup": "-", "z10": "-", "z15": "-", "z25": 0}
         probe = {**fields, **harmless, "ztor": 0}
         source, source_second = yield [("first", probe), ("figures", probe)]
         if not source or source.refusal or source_second.refusal or source.figures["dip"] != source_second.figures["dip"]:
@@ -534,6 +577,16 @@ def tell_origins(report, patterns, long):
         report.fail(b"", "the list leaves out an origin of a field")
 
 
+def tell_lengths(report, long):
+    """Prints how many given RRUPs stand at the limit of 18; a long list must have both sides of it for each origin of W and of ZTOR."""
+    origins = ("measured", "inferred", "blank")
+    count = {side: [report.count[Limit(w, ztor, side)] for w in origins for ztor in origins] for side in SIDES}
+    told = (f"{sum(count[side])} {words}, {min(count[side])} at least" for side, words in SIDES.items())
+    print("given RRUPs at the limit of 18, for each origin of W and of ZTOR: " + "; ".join(told))
+    if long and not all(map(all, count.values())):
+        report.fail(b"", "the list leaves out a side of the limit of 18")
+
+
 def tell_raised(report, raised, long):
     """Prints how often each measure's median is PGA's; a long list must show the rule at work, and at no other measure."""
     count = collections.Counter(k for measures in raised for k in measures)
@@ -659,9 +712,10 @@ def main():
     accepted, blanks = sum(patterns.values()), {tuple(origin == "blank" for origin in pattern) for pattern in patterns}
     print(f"seed {given.seed}: {len(lines)} lines, {accepted} accepted, {len(blanks)} of 256 patterns of blank fields among them")
     print("refused: " + ", ".join(f"{n} by {number}" for number, n in sorted(refusals.items())))
-    if given.count >= 20000 and (len(blanks) < 256 or len(refusals) < 14):
+    if given.count >= 20000 and (len(blanks) < 256 or len(refusals) < 15):
         report.fail(b"", "the list leaves out a pattern or a refusal")
     tell_origins(report, patterns, long)
+    tell_lengths(report, long)
     if completed and predict:
         tell_raised(report, raised, long)
     tell(report, accepted, ROW if rows else PRINTED if predict else [])

@@ -1,9 +1,9 @@
 #!/usr/bin/env python3
 """Requests for the comparison. First, the same in every long list: each magnitude of each style, each Vs30, dip, azimuth and rake, soft
-sites near a fault, each field measured, inferred and blank, and odd words in each field. Then random ones: every pattern of blank fields,
-values at and beside each branch of the rules, lines with fields out of range, lines at a limit that a completed figure decides, and
-malformed lines; in all of these about one given figure in four is inferred. The same seed gives the same list. And periods for the
-requests of a list.
+sites near a fault, given RRUPs on both sides of the longest that is let through, each field measured, inferred and blank, and odd words in
+each field. Then random ones: every pattern of blank fields, values at and beside each branch of the rules, given RRUPs at and between the
+two limits of their length, lines with fields out of range, lines at a limit that a completed figure decides, and malformed lines; in all of
+these about one given figure in four is inferred. The same seed gives the same list. And periods for the requests of a list.
 
     python3 second/random_requests.py SEED COUNT > list
 """
@@ -15,6 +15,8 @@ NAMES = "m rake vs30 dip w zhyp ztor rjb azimuth rrup z10 z15 z25".split()
 STARRED = "dip w zhyp ztor rrup z10 z15 z25".split()
 SIGNED = "rake azimuth".split()
 TOP = {"strike-slip": 850, "reverse": 800, "normal": 750}
+# The dip where none is given, and log10 of W in km at magnitude 0 and its slope.
+SOURCES = {"strike-slip": (90, -0.76, 0.27), "reverse": (40, -1.61, 0.41), "normal": (50, -1.14, 0.35)}
 RAKES = {
     "strike-slip": [-180, -179, -151, -150, -30, -29, 0, 29, 30, 150, 151, 179, 180],
     "reverse": [31, 32, 90, 148, 149],
@@ -97,13 +99,42 @@ def root_up(n):
     return math.isqrt(n - 1) + 1 if n else 0
 
 
+def style_of(rake):
+    """The style by rake."""
+    return "reverse" if 30 < rake < 150 else "normal" if -150 < rake < -30 else "strike-slip"
+
+
+def figure(word):
+    """A given field's number, measured or inferred."""
+    return int(str(word).lstrip("~"))
+
+
+def known(fields, name, estimate):
+    """A field's number, or the estimate in its place."""
+    return estimate if fields[name] == "-" else figure(fields[name])
+
+
+def source(fields):
+    """W and ZTOR of fields in their ranges; an estimate may lie a metre beside the programs'."""
+    style, m = style_of(figure(fields["rake"])), figure(fields["m"])
+    dip, constant, slope = SOURCES[style]
+    zhyp = known(fields, "zhyp", 5630 + 6.8 * m if style == "strike-slip" else 11240 - 2 * m)
+    w = known(fields, "w", math.floor(1000 * 10 ** (constant + slope * m / 100)))
+    top = zhyp - 0.6 * w * math.sin(math.radians(known(fields, "dip", dip)))
+    return w, known(fields, "ztor", max(0, math.floor(top)))
+
+
+def limits(fields):
+    """The least RRUP that is not too short and the largest that is not too long."""
+    rjb, (w, ztor) = figure(fields["rjb"]), source(fields)
+    return max(0, root_up(rjb**2 + ztor**2) - 1), math.isqrt(rjb**2 + (ztor + w) ** 2) + 1
+
+
 def given_rrup(some, fields):
-    """A given RRUP: at the limit of refusal 12 or above it where ZTOR is given, else most often large enough."""
-    rjb = fields["rjb"]
-    if fields["ztor"] == "-":
-        return min(200000, rjb + some.choice([some.randint(0, 20000), 15000 + spread(some, 20000)]))
-    least = root_up(rjb * rjb + fields["ztor"] ** 2)
-    return max(0, some.choice([least + some.randint(-3, 3), least + spread(some, 20000), min(200000, least + some.randint(0, 50000))]))
+    """A given RRUP: at the limit of refusal 12 or of 18, or between the two."""
+    least, most = limits(fields)
+    between = [some.randint(least, most), least + spread(some, most - least), most - spread(some, most - least)]
+    return max(0, some.choice([least + some.randint(-3, 3), most + some.randint(-3, 3), *(min(200000, rrup) for rrup in between)]))
 
 
 def plain(some, pattern):
@@ -111,8 +142,8 @@ def plain(some, pattern):
     style = some.choice(list(TOP))
     fields = {"rake": some.choice(RAKES[style])}
     if some.random() < 0.5:
-        rake = some.randint(-180, 180)
-        style, fields["rake"] = ("reverse" if 30 < rake < 150 else "normal" if -150 < rake < -30 else "strike-slip"), rake
+        fields["rake"] = some.randint(-180, 180)
+        style = style_of(fields["rake"])
     for name in NAMES:
         if name in STARRED and pattern >> STARRED.index(name) & 1:
             fields[name] = "-"
@@ -137,12 +168,13 @@ def folded(some, pattern):
 
 
 def hanging(some, pattern):
-    """A request that a completed figure at its limit refuses or not: ZTOR at 15000, RRUP at 200000, or a given RRUP against ZTOR."""
+    """A request that a completed figure at its limit refuses or not: ZTOR at 15000, RRUP at 200000, or a given RRUP against ZTOR and W."""
     fields = plain(some, pattern)
     kind = some.randrange(3)
     if kind == 0:
         dip, w = some.choice([15, 30, 47, 73, 90]), spread(some, 15000)
         fields.update(dip=dip, w=w, ztor="-", zhyp=15000 + round(0.6 * w * math.sin(math.radians(dip))) + some.randint(-1, 2))
+        fields.update(rrup=fields["rrup"] if fields["rrup"] == "-" else given_rrup(some, fields))
     elif kind == 1:
         dip, w, ztor = some.choice([15, 40, 75, 90]), spread(some, 100000), some.randint(0, 15000)
         h, depth = w * math.cos(math.radians(dip)), ztor + w * math.sin(math.radians(dip))
@@ -150,9 +182,8 @@ def hanging(some, pattern):
         rjb = math.sqrt(200000**2 - (depth if deep else ztor) ** 2)
         fields.update(dip=dip, w=w, ztor=ztor, rrup="-", azimuth=90 if deep else -90, rjb=round(rjb) + some.randint(-2, 1))
     else:
-        fields.update(dip=90, w=spread(some, 20000), ztor="-", zhyp=some.randint(0, 15000))
-        ztor = max(0, math.floor(fields["zhyp"] - 0.6 * fields["w"]))
-        fields.update(rrup=max(0, root_up(fields["rjb"] ** 2 + ztor**2) + some.randint(-3, 2)))
+        fields.update(dip=90, w=some.choice(["-", spread(some, 20000)]), ztor="-", zhyp=some.randint(0, 15000))
+        fields.update(rrup=max(0, some.choice(limits(fields)) + some.randint(-2, 2)))
     return fields
 
 
@@ -209,6 +240,46 @@ def spoiled(some, line):
     ])()
 
 
+def too_far(whole):
+    """Given RRUPs on both sides of the longest that is let through: W and ZTOR measured, inferred and blank, at their ends, each style; RJB 0,
+    where RRUP less a metre may be the root itself, up to 200000; with something else that is refused before or after."""
+    for rake in (0, 90, -90):
+        for w in (1, 100000, 12000, "~12000", "-"):
+            for ztor in (0, 15000, 3000, "~3000", "-"):
+                for rjb in (0, "~7000", 199900) if rake == 90 else (0,):
+                    fields = {**whole, "rake": rake, "w": w, "ztor": ztor, "rjb": rjb}
+                    least, most = limits(fields)
+                    for rrup in (least, most - 1, most, most + 1, f"~{most}", f"~{most + 1}"):
+                        yield {**fields, "rrup": rrup}
+    # the shortest limits that there are
+    for w in (1, 2):
+        for rjb in (0, 1, 2):
+            for ztor in (0, 1):
+                for rrup in range(6):
+                    yield {**whole, "w": w, "ztor": ztor, "rjb": rjb, "rrup": rrup}
+    # the root a whole number
+    for rjb, depth in ((4000, 3000), (12000, 5000), (84000, 13000), (120000, 90000), (192000, 56000)):
+        for ztor in (0, 999, 2999):
+            for more in (0, 1, 2):
+                yield {**whole, "w": depth - ztor, "ztor": ztor, "rjb": rjb, "rrup": math.isqrt(rjb**2 + depth**2) + more}
+    # RRUP and RJB at the ends of their ranges
+    for w in (1, 100000):
+        for ztor in (0, 15000):
+            for rjb in (0, 199430, 199998, 199999, 200000, 200001):
+                for rrup in (199999, 200000, 200001):
+                    yield {**whole, "w": w, "ztor": ztor, "rjb": rjb, "rrup": rrup}
+    # what else is refused, W and ZTOR given and blank
+    for given in ({}, {"w": 12000}, {"ztor": 3000}, {"w": 12000, "ztor": 3000, "z25": 1500}):
+        fields = {**whole, **given}
+        most = limits(fields)[1]
+        for rrup in (most, most + 1):
+            for name in NAMES:
+                for word in OUTSIDE[name] if name in ("azimuth", "z10", "z15", "z25") else OUTSIDE[name][-1:]:
+                    yield {**fields, "rrup": rrup, name: word}
+            for azimuth in (-90, 0, 90, 180):
+                yield {**fields, "rrup": rrup, "azimuth": azimuth}
+
+
 def every():
     """Each value of the fields whose rules have a small domain and each odd word in each field, the rest of the request plain."""
     whole = dict(zip(NAMES, "650 90 300 - - - - 7000 60 - - - -".split()))
@@ -244,6 +315,7 @@ def every():
         for m in (600, 650, 700, 750, 800):
             for rrup in (1000, 3000, 10000):
                 yield {**whole, "m": m, "vs30": vs30, "dip": 45, "w": 20000, "ztor": 1000, "rjb": 0, "rrup": rrup, "z25": 10000}
+    yield from too_far(whole)
     # each field measured, inferred and blank, the others measured or inferred
     given = dict(zip(NAMES, "650 -90 300 45 12000 9000 2000 7000 -60 9000 100 200 1500".split()))
     for mark in ("", "~"):

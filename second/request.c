@@ -216,6 +216,15 @@ static int has_estimate(const struct field *f) {
     return 0;
 }
 
+/* 12 and 18, or 0: a given RRUP that does not come to the rupture's top even if it were a metre longer, or that leads beyond the rupture even
+   if it were a metre shorter, no place of which is deeper than ZTOR + W. */
+static int length_refusal(const struct field *f) {
+    long long r = f[F_RRUP].number, b = f[F_RJB].number, top = f[F_ZTOR].number, deepest = top + f[F_W].number;
+    if ((r + 1) * (r + 1) < b * b + top * top)
+        return 12;
+    return r >= 1 && (r - 1) * (r - 1) > b * b + deepest * deepest ? 18 : 0;
+}
+
 /* Puts an estimate where a field is blank; a given one stays as it is. */
 static void fill(struct field *field, long number) {
     if (is_blank(field))
@@ -252,7 +261,7 @@ static void fill_basin(struct completed *c) {
     fill(&f[F_Z25], (long)floor(c->exact.z25));
 }
 
-/* Completes a request; where `limits` is 0 what was estimated is not tested, nor a given RRUP against it (7, 11, 12, 13). */
+/* Completes a request; where `limits` is 0 what was estimated is not tested, nor a given RRUP against it (7, 11, 12, 18, 13). */
 static struct completed complete(const struct request *request, int limits) {
     struct completed c = {.record = *request};
     const struct field *f = c.record.field;
@@ -272,9 +281,9 @@ static struct completed complete(const struct request *request, int limits) {
     fill_distance(&c);
     if ((limits || is_given(&f[F_RRUP])) && f[F_RRUP].number > 200000)
         return refused(11);
-    long long r = f[F_RRUP].number, b = f[F_RJB].number, z = f[F_ZTOR].number;
-    if (limits && is_given(&f[F_RRUP]) && (r + 1) * (r + 1) < b * b + z * z)
-        return refused(12);
+    refusal = limits && is_given(&f[F_RRUP]) ? length_refusal(f) : 0;
+    if (refusal)
+        return refused(refusal);
     if (outside(&f[F_Z10], 0, 10000) || outside(&f[F_Z15], 0, 10000))
         return refused(13);
     fill_basin(&c);

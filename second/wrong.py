@@ -91,9 +91,9 @@ WRONG = [
     ("request.c", "(limits || is_given(&f[F_RRUP]))", "is_given(&f[F_RRUP])"),
     ("request.c", "f[F_RRUP].number > 200000", "f[F_RRUP].number > 200000 + !is_given(&f[F_RRUP])"),
     ("request.c", "f[F_RRUP].number > 200000", "f[F_RRUP].number > 200000 - 3 * !is_given(&f[F_RRUP])"),
-    ("request.c", "(r + 1) * (r + 1) < b * b + z * z", "r * r < b * b + z * z"),
-    ("request.c", "(r + 1) * (r + 1) < b * b + z * z", "(r + 1) * (r + 1) <= b * b + z * z"),
-    ("request.c", "(r + 1) * (r + 1) < b * b + z * z", "(r + 1) * (r + 1) < b * b + 0 * z"),
+    ("request.c", "(r + 1) * (r + 1) < b * b + top * top", "r * r < b * b + top * top"),
+    ("request.c", "(r + 1) * (r + 1) < b * b + top * top", "(r + 1) * (r + 1) <= b * b + top * top"),
+    ("request.c", "(r + 1) * (r + 1) < b * b + top * top", "(r + 1) * (r + 1) < b * b + 0 * top"),
     ("request.c", "outside(&f[F_Z10], 0, 10000) || ", "(outside(&f[F_Z10], 0, 10000) && is_blank(&f[F_Z25])) || "),
     ("request.c", "&f[F_Z15], 0, 10000", "&f[F_Z15], 0, 10001"),
     ("request.c", "(limits || is_given(&f[F_Z25]))", "is_given(&f[F_Z25])"),
@@ -144,6 +144,68 @@ WRONG = [
     ("model.c", "llround(p->total * 1e6)", "llround(p->total * 1e6) - 1"),
     ("model.c", "llround(p->median * 1e10)", "llround(p->median * 1.000003e10)"),
     ("model.c", "llround(p->median * 1e10)", "llround(p->median * 1e10) - 2"),
+]
+
+# How a given RRUP is tested and where, as the lists below have it.
+SHORT = "(r + 1) * (r + 1) < b * b + top * top"
+FAR = "(r - 1) * (r - 1) > b * b + deepest * deepest"
+DEEPEST = "deepest = top + f[F_W].number"
+TESTED = "if (refusal)\n        return refused(refusal);\n    if (outside(&f[F_Z10],"
+FIRST = "if (limits && is_given(&f[F_RRUP]) && length_refusal(f) == 18)\n        return refused(18);\n    "
+DEPTHS = "outside(&f[F_Z10], 0, 10000) || outside(&f[F_Z15], 0, 10000)"
+
+
+def later(depths):
+    """What tests 18 behind some of the depths that 13 is about."""
+    test = f"if (refusal && (refusal == 12 || !({depths})))"
+    return "struct completed full = c;\n    fill_basin(&full);\n    " + TESTED.replace("if (refusal)", test)
+
+
+# What must be refused about an RRUP that is too long, likewise.
+WRONG_LENGTHS = [
+    # RRUP or a metre less too many, at least, no squares
+    ("request.c", FAR, FAR.replace("(r - 1)", "r")),
+    ("request.c", FAR, FAR.replace("(r - 1)", "(r - 2)")),
+    ("request.c", FAR, FAR.replace(">", ">=")),
+    ("request.c", FAR, "r - 1 > b + deepest"),
+    # W, ZTOR, RJB left out, the first two where they are estimated alone; not tested where they are; squares of W and of ZTOR
+    ("request.c", DEEPEST, "deepest = top"),
+    ("request.c", DEEPEST, "deepest = f[F_W].number"),
+    ("request.c", FAR, FAR.replace("b * b", "0 * b")),
+    ("request.c", DEEPEST, "deepest = top + is_given(&f[F_W]) * f[F_W].number"),
+    ("request.c", DEEPEST, "deepest = is_given(&f[F_ZTOR]) * top + f[F_W].number"),
+    ("request.c", "r >= 1 &&", "r >= 1 && is_given(&f[F_W]) &&"),
+    ("request.c", "r >= 1 &&", "r >= 1 && is_given(&f[F_ZTOR]) &&"),
+    ("request.c", FAR, "(r - 1) * (r - 1) > b * b + top * top + (deepest - top) * (deepest - top)"),
+    # another deepest place: by the dip, a metre more or less where W is estimated, or ZTOR
+    ("request.c", DEEPEST, "deepest = top + (long long)ceil((double)f[F_W].number * sine(f[F_DIP].number))"),
+    ("request.c", DEEPEST, DEEPEST + " + !is_given(&f[F_W])"),
+    ("request.c", DEEPEST, DEEPEST + " - !is_given(&f[F_ZTOR])"),
+    # what is inferred left out, RRUP, W and ZTOR
+    ("request.c", "r >= 1 &&", "r >= 1 && f[F_RRUP].origin == MEASURED &&"),
+    ("request.c", "r >= 1 &&", "r >= 1 && f[F_W].origin != INFERRED &&"),
+    ("request.c", DEEPEST, "deepest = (f[F_ZTOR].origin != INFERRED) * top + f[F_W].number"),
+    # on dipping faults alone; on the hanging wall alone; an RRUP of 0 turned away, one of 1 and 2
+    ("request.c", "r >= 1 &&", "r >= 1 && f[F_DIP].number < 90 &&"),
+    ("request.c", "r >= 1 &&", "r >= 1 && f[F_AZIMUTH].number > 0 &&"),
+    ("request.c", "r >= 1 && " + FAR, "r < 1 || " + FAR),
+    ("request.c", "r >= 1 && " + FAR, "r == 1 || " + FAR),
+    ("request.c", "r >= 1 && " + FAR, "r == 2 || " + FAR),
+    # another number, none, in the place of 12
+    ("request.c", "? 18 : 0", "? 17 : 0"),
+    ("request.c", "? 18 : 0", "? 19 : 0"),
+    ("request.c", "? 18 : 0", "? 12 : 0"),
+    ("request.c", "? 18 : 0", "? 0 : 0"),
+    ("request.c", "return 12;", "return 18;"),
+    # its place: behind all of 13, behind Z1.0 and Z1.5, before 11, before 9, before 8
+    ("request.c", TESTED, later(f"{DEPTHS} || full.record.field[F_Z25].number > 10000")),
+    ("request.c", TESTED, later(DEPTHS)),
+    ("request.c", TESTED, later("outside(&f[F_Z25], 0, 10000)")),
+    ("request.c", "if ((limits || is_given(&f[F_RRUP]))", FIRST + "if ((limits || is_given(&f[F_RRUP]))"),
+    ("request.c", "if (missing(&f[F_AZIMUTH],", FIRST + "if (missing(&f[F_AZIMUTH],"),
+    ("request.c", "if (missing(&f[F_RJB],", FIRST + "if (missing(&f[F_RJB],"),
+    # an estimate within its bound that is too long when it comes back
+    ("request.c", "dip), ry);", "dip), ry) + 1;"),
 ]
 
 # How a field's tilde, sign and digits are found, what follows a field, and what comes before the completing, as the lists below have it.
@@ -206,7 +268,7 @@ WRONG_ORIGINS = [
     ("request.c", "if (is_given(z15))", "if (z15->origin == MEASURED)"),
     ("request.c", "if (is_given(z10))", "if (z10->origin == MEASURED)"),
     ("request.c", "is_blank(&f[F_RRUP]) &&", "f[F_RRUP].origin != MEASURED &&"),
-    ("request.c", "limits && is_given(&f[F_RRUP]) &&", "limits && f[F_RRUP].origin == MEASURED &&"),
+    ("request.c", "limits && is_given(&f[F_RRUP]) ?", "limits && f[F_RRUP].origin == MEASURED ?"),
     ("request.c", "return is_given(field) && (", "return field->origin == MEASURED && ("),
     ("request.c", "return is_blank(field) ||", "return field->origin != MEASURED ||"),
     # another figure for an inferred speed or depth, in the predictions alone
@@ -227,12 +289,19 @@ WRONG_ALIKE = [
     ("request.c", '"mie-"[origin]', '"mme-"[origin]'),
     ("request.c", NEXT, in_one_field("F_ZHYP", "BLANK")),
     ("request.c", "if (is_given(z15))", "if (z15->origin == MEASURED)"),
-    ("request.c", "limits && is_given(&f[F_RRUP]) &&", "limits && f[F_RRUP].origin == MEASURED &&"),
+    ("request.c", "limits && is_given(&f[F_RRUP]) ?", "limits && f[F_RRUP].origin == MEASURED ?"),
     ("request.c", "if (outside(&f[F_Z10],", "if (f[F_Z10].origin == MEASURED && outside(&f[F_Z10],"),
     ("request.c", "(double)from[F_VS30].number;", "(double)from[F_VS30].number + (from[F_VS30].origin == INFERRED);"),
     ("request.c", "(double)from[F_Z25].number / 1000", "(double)(from[F_Z25].number + (from[F_Z25].origin == ESTIMATED)) / 1000"),
     ("main.c", "*row = predict_period(&f, asked->period);", "*row = predict_period(&f, asked->period);"
      "\n    row->inter += 1e-6 * (asked->request.field[F_VS30].origin == INFERRED);"),
+    # what an answer shows by its own figures: an RRUP that is too long, or turned away and not too long; and sent back
+    ("request.c", FAR, FAR.replace("(r - 1)", "r")),
+    ("request.c", FAR, FAR.replace(">", ">=")),
+    ("request.c", DEEPEST, "deepest = top + is_given(&f[F_W]) * f[F_W].number"),
+    ("request.c", DEEPEST, "deepest = f[F_W].number"),
+    ("request.c", "? 18 : 0", "? 0 : 0"),
+    ("request.c", "dip), ry);", "dip), ry) + 1;"),
     # what its completed records show: an origin that is not the line's, ZHYP left blank, rounded to the nearest, and Z1.0 filled
     ("request.c", STYLE, in_record("F_VS30", "MEASURED")),
     ("request.c", STYLE, in_record("F_Z15", "ESTIMATED")),
@@ -320,19 +389,26 @@ WRONG_PERIODS = [
     ("main.c", "row.median, row.total);", "row.median, row.intra);"),
 ]
 
-# What document 01 leaves open, and other roundings within the bounds, which the comparison must let pass.
+# What document 01 leaves open, other roundings within the bounds, and what no answer shows, which the comparison must let pass.
 ALLOWED = [
     ("request.c", "(long)floor(c->exact.w)", "(long)ceil(c->exact.w)"),
     ("request.c", "(long)floor(c->exact.ztor)", "(long)ceil(c->exact.ztor)"),
     ("request.c", "(long)floor(c->exact.ztor)", "(long)floor(c->exact.ztor) + 1"),
     ("request.c", "ceil(exact - MICROMETRE)", "ceil(exact - 1)"),
-    ("request.c", "dip), ry);", "dip), ry) + 1;"),
+    ("request.c", "hypot(in_plane(rx, (double)ztor, (double)w, dip), ry);",
+     "fmin(hypot(in_plane(rx, (double)ztor, (double)w, dip), ry) + 1, hypot((double)rjb, (double)(ztor + w)));"),
     ("request.c", "return 519 + 3.595 * exp(ln_z);", "return ceil(519 + 3.595 * exp(ln_z));"),
     ("model.c", "llround(p->ln_median * 1e6)", "llround(p->ln_median * 1e6 - 0.49)"),
     ("model.c", "llround(p->total * 1e6)", "llround(p->total * 1e6 + 0.49)"),
     ("model.c", "llround(p->median * 1e10)", "llround(p->median * 1.0000019e10)"),
     ("model.c", "on_line(low->ln_median, high->ln_median, share)", "on_line(low->ln_median, high->ln_median, share) + 0.49e-6"),
     ("model.c", "on_line(low->inter, high->inter, share)", "on_line(low->inter, high->inter, share) - 0.49e-6"),
+    # 18 before 12: no RRUP is both too short and too long. An RRUP of 0 tested by the size of 0 - 1, and one of 1 not tested: with W 1 at
+    # least, neither is ever too long
+    ("request.c", f"if ({SHORT})\n        return 12;\n    return r >= 1 && {FAR} ? 18 : 0;",
+     f"if (r >= 1 && {FAR})\n        return 18;\n    return {SHORT} ? 12 : 0;"),
+    ("request.c", "r >= 1 &&", ""),
+    ("request.c", "r >= 1 &&", "r > 1 &&"),
 ]
 # The commands that take the proved programs' place, each in the option of its name: all, and those that print a predicted line.
 ALL = ["complete", "predict", "rows", "periods"]
@@ -415,7 +491,7 @@ def try_tables(compare):
 def try_edits(compare):
     """Tries the lists above; how many of their programs fare otherwise than they must."""
     bad = 0
-    for edit, commands in [(edit, PRINTING) for edit in WRONG + WRONG_ORIGINS] + [(edit, ALL) for edit in WRONG_PERIODS]:
+    for edit, commands in [(edit, PRINTING) for edit in WRONG + WRONG_LENGTHS + WRONG_ORIGINS] + [(edit, ALL) for edit in WRONG_PERIODS]:
         if tried("compare.py", edited(*edit), *compare, commands=commands)[0]:
             bad += 1
             print(f"FAILED passes: {edit}")
@@ -430,7 +506,7 @@ def try_edits(compare):
             bad += 1
             print(f"FAILED refused: {edit}\n{said}")
         print(f"{edit[2]}: " + "; ".join(line for line in said.split("\n") if "answers differ" in line))
-    wrong = len(WRONG) + len(WRONG_ORIGINS) + len(WRONG_PERIODS) + len(WRONG_ALIKE)
+    wrong = len(WRONG) + len(WRONG_LENGTHS) + len(WRONG_ORIGINS) + len(WRONG_PERIODS) + len(WRONG_ALIKE)
     print(f"{wrong} wrong programs and {len(ALLOWED)} allowed ones tried, {bad} fared otherwise")
     return bad
 

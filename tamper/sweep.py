@@ -88,7 +88,7 @@ MORE = [
     # A refusal's number is held to the specs by the crate that refuses with it.
     ("code", "crates/refusals/src/lib.rt", of("MARKED"), "completion"),
     ("code", "crates/refusals/src/lib.rt", of("RAKE MAGNITUDE VS30 DIP WIDTH HYPOCENTRE TOP"), "source_stage"),
-    ("code", "crates/refusals/src/lib.rt", of("RJB AZIMUTH ABOVE RRUP TOO_SHORT"), "path_stage"),
+    ("code", "crates/refusals/src/lib.rt", of("RJB AZIMUTH ABOVE RRUP TOO_SHORT TOO_FAR"), "path_stage"),
     ("code", "crates/refusals/src/lib.rt", of("BASIN"), "site_stage"),
     ("code", "crates/refusals/src/lib.rt", of("NO_MEASURE"), "prediction"),
     ("code", "crates/refusals/src/lib.rt", of("NO_PERIOD"), "one_period"),
@@ -96,7 +96,7 @@ MORE = [
     ("code", "crates/refusals/src/lib.rt", of("MALFORMED"), "answer"),
     ("code", "crates/request/src/lib.rt", of("style_of value_of"), "request"),
     ("code", "crates/source_stage/src/lib.rt", of("hypocentre_tenths complete_hypocentre"), "source_stage"),
-    ("code", "crates/path_stage/src/lib.rt", of("is_too_short"), "path_stage"),
+    ("code", "crates/path_stage/src/lib.rt", of("is_too_short one_less is_too_far"), "path_stage"),
     ("code", "crates/estimate/src/*.rt", EVERY, "estimate"),
     ("code", "crates/rupture/src/*.rt", EVERY, "rupture"),
     ("code", "crates/factors/src/*.rt", EVERY, "factors"),
@@ -130,7 +130,7 @@ MORE = [
     ("specs", "crates/rules/specs/*.antt", EVERY, "estimate"),
     ("specs", "crates/geometry/specs/*.antt", EVERY, "rupture"),
     ("specs", "crates/outcome/specs/*.antt", of("zhyp tenthsOf"), "source_stage"),
-    ("specs", "crates/outcome/specs/*.antt", of("tooShort"), "path_stage"),
+    ("specs", "crates/outcome/specs/*.antt", of("tooShort tooFar"), "path_stage"),
     ("specs", "crates/outcome/specs/*.antt", EVERY, "completion"),
     ("specs", "crates/tables/specs/*.antt", of("periods measures"), "tables"),
     ("specs", "crates/model/specs/*.antt", of("isShort sixthPlace"), "model"),
@@ -167,7 +167,7 @@ MORE = [
     ("second", "second/main.c", re.compile(r"^(PERIOD_DIGITS|row_of|parse_period|period_before): (?!.*(for \(|digits = 0|return [01];))"), None),
     ("second", "second/request.c", of("style_of sine cosine estimate_(?!request).* hypocentre root_up across_strike fill_.* figures_of"), None),
     ("second", "second/request.c", re.compile(r"^parse_field: .*(count|digits\[)|^parse_line: .*FIELDS"), None),
-    ("second", "second/request.c", re.compile(r"^(source_refusal|complete): (?!.*(for \(|= \{))"), None),
+    ("second", "second/request.c", re.compile(r"^(source_refusal|length_refusal|complete): (?!.*(for \(|= \{))"), None),
 ]
 
 # In the tables that follow an entry has the files, the pattern that the number lies in, and why.
@@ -189,6 +189,7 @@ DOWN = [
     ("second/model.c", r"^is_short: .*0\.25", "no period lies between 0.25 and 0.30 s"),
     ("crates/fixed/specs/*", r"lnHalved 18|lnDoubled 6", "the most halvings that a number can ask for: one more is never taken"),
     ("crates/reckon/src/*", r"if twos < 32", "at 32 both branches shift by nothing"),
+    ("crates/path_stage/src/*", r"^one_less: .*if n < 1", "at 1 both branches give 0"),
     ("second/main.c", r"PERIOD_DIGITS 20", "twenty-one digits are more than 64 bits hold, which is tested too"),
     ("*", r"'9'", "10 is no byte"),
 ]
@@ -204,6 +205,7 @@ SAME = [
     ("crates/numerals/specs/*", r"(?<=getD s 0 )0", "the byte past an end, which is not read"),
     ("crates/lines/specs/*", r"(?<=getD [ls] \d )0", "the byte past an end, where none is"),
     ("crates/lists/specs/*", r"(?<=\(longest \+ 1\) )0|(?<=replicate longest )0", "what fills a place that is not read"),
+    ("crates/outcome/specs/*", r"^tooFar: .*leb 1", "an RRUP of 0 or 1 less a metre is 0, and so never too long"),
     ("second/model.c", r"(?<=ROCK, )0", "the A1100 of the rock's own site term, which its branch does not read"),
     ("second/model.c", r"ztor >= 20 \? 0", "no accepted ZTOR is above 15 km"),
     ("second/model.c", r"^row_at: .*k = 0", "at the first period the line to the second begins, with the same row"),
@@ -213,6 +215,7 @@ SAME = [
     ("second/request.c", r"tenths > 0", "less than a metre, which is rounded down to 0"),
     ("second/request.c", r"(?<=tenths / 10 : )0", "a ZTOR of 1 m for one of 0, which rounding down allows"),
     ("second/request.c", r"degrees < 0", "the sine of 0 is never asked for"),
+    ("second/request.c", r"r >= 1", "with W 1 at least, an RRUP of 0 or 1 is never too long"),
     ("second/request.h", r"LINE_BYTES 115", "thirteen fields have 105 bytes at most: a longer line is malformed anyhow"),
 ]
 
