@@ -1,7 +1,7 @@
--- What is reported: within 2 m of the exact RRUP, never below the root of RJB² + ZTOR², a metre less never above that of RJB² + (ZTOR +
--- W)², and off the hanging wall the smallest whole metre not below the first root. On the hanging wall the figure is RRUP rounded up, which
--- is within 0.371 m + 1 m, held between the two roots rounded up. The first of these is at most a metre and 0.2 mm above the exact RRUP
--- and is reported only where it is the larger; the second is at most 0.2 mm below it and is reported only where it is the smaller:
+-- What is reported: within 2 m of the exact RRUP; never below the root of RJB² + ZTOR², and off the hanging wall the smallest such whole
+-- metre; a metre less, never above the root of RJB² + (ZTOR + W)². On the hanging wall it is RRUP rounded up, which is within 0.371 m + 1 m,
+-- held between the two roots rounded up. The first of these is at most a metre and 0.2 mm above the exact RRUP and is reported only where
+-- it is the larger; the second is at most 0.2 mm below it and is reported only where it is the smaller:
 --   RJB² = (RX - h)² + RY², (RX - h)² + ZTOR² ≤ R'² ≤ (RX - h)² + (ZTOR + W)² and RRUP² = R'² + RY²,
 -- each but for twice the square of a tenth of a millimetre. Assumes nothing.
 use Prim.Native.Nat.{ℕ, zero, suc, _+_, _-_, _*_, _/_, _≤_, _<_}
@@ -30,7 +30,7 @@ use Rattle.geometry.proofs.PlanNear.{Placed, plan-near, plan-square, pl
 use Rattle.geometry.proofs.Zones.{section-square, section-above}
 use Rattle.geometry.proofs.SectionNear.{rrup-near, metres-up}
 
--- ---- RRUP is a metre above no whole number whose square is at most RJB² + ZTOR²
+-- ---- no whole number whose square is at most RJB² + ZTOR² is more than a metre above RRUP
 not-below : {S K k sd cd sd' cd' : ℕ} → Scale S K k → Angle S k sd cd sd' cd' → (w z x y rjb p : ℕ) → 1 ≤ w → w ≤ 100000 → z ≤ 15000
     → x ≤ 1000000 * S → rjb * S * (rjb * S) ≤ (x - w * cd) * (x - w * cd) + y * y + 2 * (K * K) → p * p ≤ rjb * rjb + z * z
     → p * S ≤ rrup S sd cd w z x y + S
@@ -43,18 +43,18 @@ not-below {S} {K} {k} {sd} {cd} scale d w z x y rjb p w-low w-le z-le x-le far h
     (omega (arith, mul-le-mul-right (S * S) hp, section-square scale d w z x w-low w-le z-le x-le, root-is (r * r + y * y) .high)) in
     omega arith
 
--- ---- nor a metre below one whose square is at least RJB² + (ZTOR + W)²
+-- ---- and none whose square is at least RJB² + (ZTOR + W)² is more than 0.2 mm below it
 not-beyond : {S K k sd cd sd' cd' : ℕ} → Scale S K k → Angle S k sd cd sd' cd' → (w z x y rjb q : ℕ) → 1 ≤ w → w ≤ 100000 → z ≤ 15000
     → x ≤ 1000000 * S → (x - w * cd) * (x - w * cd) + y * y ≤ rjb * S * (rjb * S) + K * K → rjb * rjb + (z + w) * (z + w) ≤ q * q
-    → rrup S sd cd w z x y ≤ q * S + S
+    → rrup S sd cd w z x y ≤ q * S + 2 * K
 unfolding rrup
 not-beyond {S} {K} {k} {sd} {cd} scale d w z x y rjb q w-low w-le z-le x-le near hq =
     let r : ℕ = rPrime S sd cd w z x in
-    let D : ℕ = root (r * r + y * y) in
-    let short : D ≤ q * S + 2 * K =
-    triangle D (q * S) (2 * K)
-    (omega (arith, mul-le-mul-right (S * S) hq, section-above scale d w z x w-low w-le z-le x-le, root-is (r * r + y * y) .low)) in
-    omega arith
+    triangle (root (r * r + y * y)) (q * S) (2 * K)
+    (omega (arith, mul-le-mul-right (S * S) hq, section-above scale d w z x w-low w-le z-le x-le, root-is (r * r + y * y) .low))
+
+less-than-a-metre : {S K k : ℕ} → Scale S K k → (q : ℕ) → q * S + 2 * K ≤ q * S + S
+less-than-a-metre scale q = omega arith
 
 -- ---- RRUP of the program, for any RX and RY
 pub from-plan-near : (dip w ztor : ℕ) (p : Place) (x y : ℕ) → WholeDegree dip → 1 ≤ w → w ≤ 100000 → ztor ≤ 15000
@@ -154,10 +154,10 @@ module _ (dip a w z rjb : ℕ) (ranges : RuptureInRange dip w z rjb) (dip-le : d
       (λ q x y site.
       not-below scale30 dip-degree w z x y rjb p (ranges .w-low) (ranges .w-high) (ranges .ztor-high) (x-le scale30 (site .placed)) (site .spans) hp)
 
-  hanging-below : (q : ℕ) → rjb * rjb + (z + w) * (z + w) ≤ q * q → hangingWallE dip a w z rjb ≤ q * E30 + E30
+  hanging-below : (q : ℕ) → rjb * rjb + (z + w) * (z + w) ≤ q * q → hangingWallE dip a w z rjb ≤ q * E30 + 2 * K26
   unfolding rrupE
   hanging-below q hq =
-      by-azimuth (λ m n. n ≤ q * E30 + E30)
+      by-azimuth (λ m n. n ≤ q * E30 + 2 * K26)
       (λ p x y site.
       not-beyond scale30 dip-degree w z x y rjb q (ranges .w-low) (ranges .w-high) (ranges .ztor-high) (x-le scale30 (site .placed)) (site .spans-high) hq)
 
@@ -179,7 +179,7 @@ ceil-least n m h = go (leb n (root n * root n)) refl
     go false e = omega (arith, side-lt (root n) m (omega (arith, leb-false n (root n * root n) e)))
 
 -- one less is at most the root
-pub ceil-before : (n : ℕ) → (ceilRoot n - 1) * (ceilRoot n - 1) ≤ n
+ceil-before : (n : ℕ) → (ceilRoot n - 1) * (ceilRoot n - 1) ≤ n
 ceil-before n = go (ceilRoot n) refl
   where
     go : (m : ℕ) → ceilRoot n ≡ m → (m - 1) * (m - 1) ≤ n
@@ -316,7 +316,9 @@ reported-near dip azimuth w ztor rjb ranges = signed (go (onHangingWall dip azim
         (larger-near E30 (ceilRoot n) (smaller most (hangingWallFixed dip a w ztor rjb)) (hangingWallE dip a w ztor rjb)
         (smaller-near E30 most (hangingWallFixed dip a w ztor rjb) (hangingWallE dip a w ztor rjb)
         (hanging-near dip a w ztor rjb ranges (o .dip-lt) (o .a-low) (o .a-high))
-        (hanging-below dip a w ztor rjb ranges (o .dip-lt) (o .a-low) (o .a-high) most (ceil-above (rjb * rjb + (ztor + w) * (ztor + w)))))
+        (le-trans
+        (hanging-below dip a w ztor rjb ranges (o .dip-lt) (o .a-low) (o .a-high) most (ceil-above (rjb * rjb + (ztor + w) * (ztor + w))))
+        (less-than-a-metre scale30 most)))
         (hanging-above dip a w ztor rjb ranges (o .dip-lt) (o .a-low) (o .a-high) (ceilRoot n - 1) (ceil-before n)))
     go false e = let is = distance-off dip azimuth w ztor rjb e in rw (is .0, is .1) (same E30 (ceilRoot n))
 

@@ -5,8 +5,9 @@
 --   (RX - h)² + Z² ≤ R'², RX - h stopping at 0                                                      (section-square)
 --   R'² ≤ (RX - h)² + (Z + W)²                                                                      (section-above)
 -- Zone A: v² + e² = RX² + Z², a turn. Zone B: e = 0, and with d = RX c - Z s, 0 ≤ d ≤ W, the turn says v² = RX² + Z² - d²; where h ≤ RX
--- both d² and h² are at most RX h. Zone C: the turn of (RX - h, Z + W s). The roundings cost less than the square of a tenth of a
--- millimetre. A and B below are S v and S e. Assumes nothing.
+-- both d² and h² are at most RX h. Zone C: the turn of (RX - h, Z + W s). From above: in zone A, RX h = W RX c ≤ W Z; in zone B, v is a side of
+-- that turn where h ≤ RX, and at most Z + W elsewhere. The roundings cost less than the square of a tenth of a millimetre. A and B below are
+-- S v and S e. Assumes nothing.
 use Prim.Native.Nat.{ℕ, _+_, _-_, _*_, _/_, _≤_, _<_}
 use mathlib.Core.Path.{_≡_, refl, ap, _∙_}
 use native.Mathlib.Omega.{arith}
