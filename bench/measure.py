@@ -4,7 +4,7 @@ rounds' ratios.
 
     bench/measure.py SECOND FOLDER
 
-SECOND is the C program; FOLDER has the lists `mixed`, `soft` and `stiff`.
+SECOND is the C program; FOLDER has the lists `mixed`, `soft` and `stiff`, and the list `sites` with its file `sites.file`.
 """
 import os
 import statistics
@@ -23,28 +23,45 @@ PAIRS = [
     ("predict --period 370", "/dev/null", "mixed"),
     ("predict --period 370", "a pipe", "mixed"),
 ]
+# The programs that go from one path to another, and what they read.
+PATHS = [("pack", "sites"), ("unpack", "sites.file")]
+
+
+def spent(running):
+    """How many seconds of processor time a process takes to its end."""
+    _, status, used = os.wait4(running.pid, 0)
+    running.returncode = os.waitstatus_to_exitcode(status)
+    if running.returncode != 0:
+        raise SystemExit(f"{running.args} failed")
+    return used.ru_utime + used.ru_stime
 
 
 def once(command, path, out):
     """How many seconds of processor time a command takes over a list."""
     with open(path, "rb") as given:
         reader = subprocess.Popen(["cat"], stdin=subprocess.PIPE, stdout=subprocess.DEVNULL) if out == "a pipe" else None
-        writer = subprocess.Popen(command, stdin=given, stdout=reader.stdin if reader else subprocess.DEVNULL)
-        _, status, used = os.wait4(writer.pid, 0)
-        writer.returncode = os.waitstatus_to_exitcode(status)
+        seconds = spent(subprocess.Popen(command, stdin=given, stdout=reader.stdin if reader else subprocess.DEVNULL))
     if reader:
         reader.communicate()
-    if writer.returncode != 0:
-        raise SystemExit(f"{command} failed")
-    return used.ru_utime + used.ru_stime
+    return seconds
+
+
+def compared(what, kind, proved_once, c_once):
+    """Runs both sides in turn and prints what they took."""
+    proved, c = [], []
+    for _ in range(ROUNDS):
+        proved.append(proved_once())
+        c.append(c_once())
+    ratio = statistics.median(p / q for p, q in zip(proved, c))
+    print(f"{what:34}{kind:8}{statistics.median(proved):11.3f} s {statistics.median(c):11.3f} s {ratio:7.2f}", flush=True)
 
 
 second, folder = sys.argv[1:]
 for program, out, kind in PAIRS:
     name, *words = program.split()
-    proved, c = [], []
-    for _ in range(ROUNDS):
-        proved.append(once([f"target/bin/{name}", *words], f"{folder}/{kind}", out))
-        c.append(once([second, name, *words], f"{folder}/{kind}", out))
-    ratio = statistics.median(p / q for p, q in zip(proved, c))
-    print(f"{program + ' to ' + out:34}{kind:8}{statistics.median(proved):11.3f} s {statistics.median(c):11.3f} s {ratio:7.2f}", flush=True)
+    compared(f"{program} to {out}", kind, lambda: once([f"target/bin/{name}", *words], f"{folder}/{kind}", out),
+             lambda: once([second, name, *words], f"{folder}/{kind}", out))
+for program, source in PATHS:
+    paths = [f"{folder}/{source}", f"{folder}/made"]
+    compared(f"{program} of 65535 records", "mixed", lambda: spent(subprocess.Popen([f"target/bin/{program}", *paths])),
+             lambda: spent(subprocess.Popen([second, program, *paths])))

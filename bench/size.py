@@ -18,6 +18,7 @@ import sys
 # The parts and their crates. The functions that C calls have no crate in their names, and one prefix.
 PARTS = {
     "text form": "text numerals lines answer lists kept lent",
+    "site files": "fields request_lines records list_lines site_files record_answers bytes",
     "completion": "request rules estimate rupture outcome source_stage path_stage site_stage completion sizes",
     "model": "factors terms site sigmas short_periods measures reports periods prediction one_period",
     "reckoning": "reckon",

@@ -34,6 +34,8 @@ FEWER = {
     "xanhupive_predict_line": {"one_period": 0, "periods": 0},
     # One of those two sheets, whatever number the caller gives.
     "xanhupive_take_part": {"one_period": 0, "periods": 0},
+    # One of those two sheets likewise.
+    "xanhupive_record_answer": {"one_period": 0, "periods": 0},
     # The one number that it writes is 14.
     "xanhupive_close": {"numerals::put_number": 2},
 }

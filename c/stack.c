@@ -25,6 +25,11 @@
 #pragma weak xanhupive_reader_begin
 #pragma weak xanhupive_take_part
 #pragma weak xanhupive_close
+#pragma weak xanhupive_pack
+#pragma weak xanhupive_unpack
+#pragma weak xanhupive_file_records
+#pragma weak xanhupive_record_spectrum
+#pragma weak xanhupive_record_answer
 
 /* Bytes of the painted stack: several times what any function uses. */
 #define ROOM 65536
@@ -120,6 +125,8 @@ static uint8_t out[XANHUPIVE_LONGEST_ANSWER];
 static double rows[XANHUPIVE_NUMBERS];
 static double median, total;
 static uint64_t took, wrote;
+static uint8_t file[XANHUPIVE_FILE_HEAD + XANHUPIVE_RECORD];
+static uint8_t list_back[XANHUPIVE_LONGEST_LINE + 1];
 
 /* ---- the calls of each function with a line; what they answer is what the function answers on any stack ---- */
 
@@ -240,6 +247,76 @@ static void close_list(function *called, const struct line *line)
     expect(refused(called, none) == 0 && wrote == 0, "and closed again");
 }
 
+/* How many bytes a line has with its LF, where it has one. */
+static size_t with_end(const struct line *line)
+{
+    return line->length + (line->left > line->length);
+}
+
+/* A line as a file: with a byte too few, and with enough. */
+static void pack(function *called, const struct line *line)
+{
+    size_t size = with_end(line);
+    uint32_t few = xanhupive_pack(line->bytes, size, file, sizeof file - 1, &wrote);
+    uint32_t enough = xanhupive_pack(line->bytes, size, file, sizeof file, &wrote);
+    const uint64_t *given = GIVEN(AT(line->bytes), size, AT(file), sizeof file - 1, AT(&wrote));
+    expect(refused(called, given) == few, "a byte too few for a file");
+    given = GIVEN(AT(line->bytes), size, AT(file), sizeof file, AT(&wrote));
+    expect(refused(called, given) == enough, "a file");
+}
+
+/* The file of a line, or the last one that there was: with no room, and with enough; and cut short. */
+static void unpack(function *called, const struct line *line)
+{
+    xanhupive_pack(line->bytes, with_end(line), file, sizeof file, &wrote);
+    uint32_t none = xanhupive_unpack(file, sizeof file, list_back, 0, &wrote);
+    uint32_t enough = xanhupive_unpack(file, sizeof file, list_back, sizeof list_back, &wrote);
+    const uint64_t *given = GIVEN(AT(file), sizeof file, AT(list_back), 0, AT(&wrote));
+    expect(refused(called, given) == none, "no room for a list");
+    given = GIVEN(AT(file), sizeof file, AT(list_back), sizeof list_back, AT(&wrote));
+    expect(refused(called, given) == enough, "a list");
+    given = GIVEN(AT(file), line->number % sizeof file, AT(list_back), sizeof list_back, AT(&wrote));
+    expect(refused(called, given) != 0, "a file cut short");
+}
+
+/* The same looked through, and cut short. */
+static void file_records(function *called, const struct line *line)
+{
+    xanhupive_pack(line->bytes, with_end(line), file, sizeof file, &wrote);
+    uint32_t answer = xanhupive_file_records(file, sizeof file, &took);
+    expect(refused(called, GIVEN(AT(file), sizeof file, AT(&took))) == answer, "a file looked through");
+    expect(refused(called, GIVEN(AT(file), line->number % sizeof file, AT(&took))) != 0, "a file cut short");
+}
+
+/* A record's spectrum: with one number too few, with enough, and of too few bytes. */
+static void record_spectrum(function *called, const struct line *line)
+{
+    const uint8_t *record = file + XANHUPIVE_FILE_HEAD;
+    xanhupive_pack(line->bytes, with_end(line), file, sizeof file, &wrote);
+    uint32_t few = xanhupive_record_spectrum(record, XANHUPIVE_RECORD, rows, XANHUPIVE_NUMBERS - 1);
+    uint32_t enough = xanhupive_record_spectrum(record, XANHUPIVE_RECORD, rows, XANHUPIVE_NUMBERS);
+    const uint64_t *given = GIVEN(AT(record), XANHUPIVE_RECORD, AT(rows), XANHUPIVE_NUMBERS - 1);
+    expect(refused(called, given) == few, "a number too few for a record's spectrum");
+    given = GIVEN(AT(record), XANHUPIVE_RECORD, AT(rows), XANHUPIVE_NUMBERS);
+    expect(refused(called, given) == enough, "a record's spectrum");
+    given = GIVEN(AT(record), line->number % XANHUPIVE_RECORD, AT(rows), XANHUPIVE_NUMBERS);
+    expect(refused(called, given) == XANHUPIVE_MISUSE, "a record too short");
+}
+
+/* A record's answer, by both sheets and by what is none: with no room, and with enough. */
+static void record_answer(function *called, const struct line *line)
+{
+    const uint8_t *record = file + XANHUPIVE_FILE_HEAD;
+    xanhupive_pack(line->bytes, with_end(line), file, sizeof file, &wrote);
+    for (uint64_t sheet = XANHUPIVE_COMPLETION; sheet <= XANHUPIVE_PREDICTION + 1; sheet++) {
+        for (size_t room = 0; room <= sizeof out; room += sizeof out) {
+            uint32_t answer = xanhupive_record_answer(record, XANHUPIVE_RECORD, sheet, out, room, &wrote);
+            const uint64_t *given = GIVEN(AT(record), XANHUPIVE_RECORD, sheet, AT(out), room, AT(&wrote));
+            expect(refused(called, given) == answer, "a record's answer");
+        }
+    }
+}
+
 /* ---- the depths ---- */
 
 /* What the header says of xanhupive_measure: the controller's library has another figure. */
@@ -264,6 +341,12 @@ static const struct measured {
     {"xanhupive_reader_begin", (function *)xanhupive_reader_begin, reader_begin, XANHUPIVE_STACK_READER_BEGIN},
     {"xanhupive_take_part", (function *)xanhupive_take_part, take_part, XANHUPIVE_STACK_TAKE_PART},
     {"xanhupive_close", (function *)xanhupive_close, close_list, XANHUPIVE_STACK_CLOSE},
+    {"xanhupive_pack", (function *)xanhupive_pack, pack, XANHUPIVE_STACK_PACK},
+    {"xanhupive_unpack", (function *)xanhupive_unpack, unpack, XANHUPIVE_STACK_UNPACK},
+    {"xanhupive_file_records", (function *)xanhupive_file_records, file_records, XANHUPIVE_STACK_FILE_RECORDS},
+    {"xanhupive_record_spectrum", (function *)xanhupive_record_spectrum, record_spectrum,
+     XANHUPIVE_STACK_RECORD_SPECTRUM},
+    {"xanhupive_record_answer", (function *)xanhupive_record_answer, record_answer, XANHUPIVE_STACK_RECORD_ANSWER},
 };
 
 /* Calls a function with each line of a list. */
@@ -303,7 +386,7 @@ int main(void)
         const struct measured *measured = &FUNCTIONS[k];
         if (measured->called != NULL) {
             size_t most = deepest(measured, list, length);
-            printf("%-24s%8zu%8zu\n", measured->name, most, measured->stated);
+            printf("%-26s%8zu%8zu\n", measured->name, most, measured->stated);
             expect(most <= measured->stated, "no call goes deeper than the header says");
             expect(measured->stated < most + most / 8 + 16, "the header says at most an eighth more than was measured");
         }

@@ -1,6 +1,7 @@
 /*
  * Xanhupive from C: a request line completed, or its shaking predicted, in 24 measures or at any period from
- * 0.010 to 10.0 s, by the Campbell-Bozorgnia 2008 equations; and a list of such lines answered in parts.
+ * 0.010 to 10.0 s, by the Campbell-Bozorgnia 2008 equations; a list of such lines answered in parts; and such a list
+ * as a file, written, read back, and answered record by record.
  * Link libexport.a, which `rt staticlib export` writes, and nothing beside it but the C library's memcpy and
  * memset. A valve's controller, short of flash, links libcontroller.a instead, which `rt staticlib controller` writes:
  * it has xanhupive_measure alone, and asks for nothing beside it.
@@ -22,11 +23,10 @@
  * period `accepted-period`; docs/ASSURANCE.md says where they stand.
  *
  * What a caller owes, which nothing here can test:
- *   - A pointer and its length are of one block that may be read, and for `out`, `rows`, `row`, `reader`,
- *     `median`, `total`, `took` and `wrote` written. With length 0 any pointer will do, NULL too: nothing
- *     is read or written there.
- *   - `median`, `total` and a `rows` or `row` of some length are aligned as a double is, `took` and `wrote`
- *     as a uint64_t is, and none of the four single numbers is NULL.
+ *   - A pointer and its length are of one block that may be read, and where it is no pointer to const
+ *     written. With length 0 any pointer will do, NULL too: nothing is read or written there.
+ *   - `median`, `total` and a `rows` or `row` of some length are aligned as a double is, `took`, `wrote` and
+ *     `count` as a uint64_t is, and none of these single numbers is NULL.
  *   - What is lent to be written shares no byte with anything else that is lent to the same call, and
  *     no other thread touches it meanwhile.
  *   - Lent bytes and numbers hold values already, whatever they are, as after a memset.
@@ -74,11 +74,19 @@ extern "C" {
 #define XANHUPIVE_NO_MEASURE 15
 #define XANHUPIVE_TOO_LONG 16
 #define XANHUPIVE_NO_PERIOD 17
+#define XANHUPIVE_NO_FILE 19
+#define XANHUPIVE_FILE_LENGTH 20
+#define XANHUPIVE_FILE_FIELD 21
 
 /* Bytes of a reader. */
 #define XANHUPIVE_READER 116
 
-/* The sheets of a list in parts: the completing program's answers, and the predicting program's. */
+/* Bytes of a file's head, bytes of a record, and the most records that a file has. */
+#define XANHUPIVE_FILE_HEAD 7
+#define XANHUPIVE_RECORD 65
+#define XANHUPIVE_MOST_RECORDS 65535
+
+/* The sheets of a list in parts and of a record: the completing program's answers, and the predicting program's. */
 #define XANHUPIVE_COMPLETION 0
 #define XANHUPIVE_PREDICTION 1
 
@@ -98,14 +106,19 @@ extern "C" {
  * most: the square root, by quarters of its number, stands on the stack 33 times, the series of the sine 8 times, the
  * digits of a number 20 times.
  */
-#define XANHUPIVE_STACK_COMPLETE_LINE 4880
-#define XANHUPIVE_STACK_PREDICT_LINE 5968
+#define XANHUPIVE_STACK_COMPLETE_LINE 5296
+#define XANHUPIVE_STACK_PREDICT_LINE 6384
 #define XANHUPIVE_STACK_MEASURE 1664
-#define XANHUPIVE_STACK_SPECTRUM 6784
+#define XANHUPIVE_STACK_SPECTRUM 7024
 #define XANHUPIVE_STACK_PERIOD 2112
 #define XANHUPIVE_STACK_READER_BEGIN 8
-#define XANHUPIVE_STACK_TAKE_PART 6288
+#define XANHUPIVE_STACK_TAKE_PART 6592
 #define XANHUPIVE_STACK_CLOSE 144
+#define XANHUPIVE_STACK_PACK 1280
+#define XANHUPIVE_STACK_UNPACK 1680
+#define XANHUPIVE_STACK_FILE_RECORDS 1264
+#define XANHUPIVE_STACK_RECORD_SPECTRUM 7024
+#define XANHUPIVE_STACK_RECORD_ANSWER 6400
 #define XANHUPIVE_STACK_CONTROLLER 1200
 
 /*
@@ -219,6 +232,69 @@ uint32_t xanhupive_take_part(uint8_t *reader, size_t reader_length, uint64_t she
  * Or returns XANHUPIVE_MISUSE where `reader_length` is below XANHUPIVE_READER.
  */
 uint32_t xanhupive_close(uint8_t *reader, size_t reader_length, uint8_t *out, size_t out_length, uint64_t *wrote);
+
+/*
+ * A list of request lines, each with its LF, as a file, and back: what the programs pack and unpack do.
+ *
+ * The file: the mark "GMQ"; a 16-bit version, 1; a 16-bit count of records; then the records. A record is thirteen
+ * 32-bit signed numbers in the order of the line's fields, the lowest such number for a blank field; then thirteen bytes,
+ * 0 for a field that was measured, 1 for one that was inferred, 3 for a blank one. All numbers stand high byte first.
+ * A list that is written and read back is the same bytes, and so is a file that is read and written again.
+ */
+
+/*
+ * Writes the file of a list.
+ *
+ * Returns 0, with how many bytes of `file` were written from its start in `*wrote`: XANHUPIVE_FILE_HEAD, and
+ * XANHUPIVE_RECORD for each line. Those behind are as they were. An empty list has a file of 7 bytes.
+ * Or returns a refusal's number, and all is as it was: 14 where some line is malformed, or the last one has no LF;
+ * else 20 for more than XANHUPIVE_MOST_RECORDS lines; else 16 where the file is longer than `file_length`. Nothing else
+ * of a request is tested: one that every prediction refuses has a record like any other.
+ */
+uint32_t xanhupive_pack(const uint8_t *list, size_t list_length, uint8_t *file, size_t file_length, uint64_t *wrote);
+
+/*
+ * Writes the list of a file.
+ *
+ * Returns 0, with how many bytes of `list` were written from its start in `*wrote`, 26 to 106 for each record. Those
+ * behind are as they were.
+ * Or returns a refusal's number, and all is as it was: 19 for another mark or version or fewer than 5 bytes; else 20
+ * where `file_length` is not what the count says; else 21 where some field of some record holds a number that no line
+ * could hold there (more than six digits, below 0 elsewhere than in rake and azimuth), is blank in one of its number
+ * and its origin and not in the other, or has an origin other than 0, 1 and 3; else 16 where the list is longer than
+ * `list_length`.
+ */
+uint32_t xanhupive_unpack(const uint8_t *file, size_t file_length, uint8_t *list, size_t list_length, uint64_t *wrote);
+
+/*
+ * Looks a file through, so that its records can be answered one by one: record k, numbered from 0, begins at
+ * file[XANHUPIVE_FILE_HEAD + XANHUPIVE_RECORD * k].
+ *
+ * Returns 0, with how many records it has in `*count`; or 19, 20 or 21 as xanhupive_unpack does, and `*count` is as it
+ * was.
+ */
+uint32_t xanhupive_file_records(const uint8_t *file, size_t file_length, uint64_t *count);
+
+/*
+ * All 24 measures of a record's request: what xanhupive_spectrum gives for its line. Of the record only the first
+ * XANHUPIVE_RECORD bytes are read, so that `record_length` may be all that follows in the file.
+ *
+ * Returns 0, with the rows as xanhupive_spectrum leaves them. Or returns the refusal's number, and no number has
+ * changed: 21 for a field as xanhupive_unpack has it, 1 to 13 or 18 for a request that is refused, else 16 where
+ * `rows_length` is below XANHUPIVE_NUMBERS; or XANHUPIVE_MISUSE where `record_length` is below XANHUPIVE_RECORD.
+ */
+uint32_t xanhupive_record_spectrum(const uint8_t *record, size_t record_length, double *rows, size_t rows_length);
+
+/*
+ * The answer to a record's request as lines of text, as the sheet shows it: what xanhupive_complete_line or
+ * xanhupive_predict_line gives for its line, "no" and a number too.
+ *
+ * Returns 0, with how many bytes of `out` were written from its start in `*wrote`. Or returns a number, and all is as
+ * it was: 21 for a field, 16 where the answer is longer than `out_length`, or XANHUPIVE_MISUSE where `record_length` is
+ * below XANHUPIVE_RECORD or `sheet` is no sheet's number.
+ */
+uint32_t xanhupive_record_answer(const uint8_t *record, size_t record_length, uint64_t sheet, uint8_t *out,
+                                 size_t out_length, uint64_t *wrote);
 
 #ifdef __cplusplus
 }

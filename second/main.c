@@ -16,12 +16,19 @@
                               as complete has them, a semicolon and a space between; a refused request's refusal
        second each-marked     the request thirteen times, each time with one field marked as estimated by us: the refusals' numbers
 
-   A period is any whole number of 64 bits, of 20 digits at most. */
+   A period is any whole number of 64 bits, of 20 digits at most. And between two paths, a list and the file for site lists:
+
+       second pack LIST FILE      writes the file of a list
+       second unpack FILE LIST    writes the list of a file
+
+   A refusal of these two is `no` and its number on standard error, and status 1; then nothing was written. */
 #include <limits.h>
 #include <math.h>
 #include <stdio.h>
+#include <stdlib.h>
 #include <string.h>
 
+#include "files.h"
 #include "model.h"
 #include "request.h"
 
@@ -316,12 +323,86 @@ static const struct command *command_of(int count, char **words, unsigned long l
     return parse_period(last, strlen(last), period) ? &COMMANDS[k] : NULL;
 }
 
+/* All bytes of a path, allocated; NULL if they cannot be had. */
+static char *read_path(const char *path, size_t *size) {
+    FILE *from = fopen(path, "rb");
+    size_t room = BLOCK, count;
+    char *bytes = from ? malloc(room) : NULL;
+    *size = 0;
+    while (bytes && (count = fread(bytes + *size, 1, room - *size, from)) > 0) {
+        *size += count;
+        if (*size == room) {
+            char *more = realloc(bytes, room *= 2);
+            if (more == NULL)
+                free(bytes);
+            bytes = more;
+        }
+    }
+    if (bytes && ferror(from)) {
+        free(bytes);
+        bytes = NULL;
+    }
+    if (from)
+        fclose(from);
+    return bytes;
+}
+
+/* Writes a path anew; whether it could. */
+static int write_path(const char *path, const char *bytes, size_t size) {
+    FILE *to = fopen(path, "wb");
+    if (to == NULL)
+        return 0;
+    int written = fwrite(bytes, 1, size, to) == size;
+    return fclose(to) == 0 && written;
+}
+
+/* What bytes become: those allocated, their size and a refusal; NULL if there is no memory for them. */
+typedef char *conversion(const char *bytes, size_t size, size_t *made, int *refusal);
+
+/* The file of a list, with room for as many of the shortest lines. */
+static char *packed(const char *bytes, size_t size, size_t *made, int *refusal) {
+    size_t room = HEAD_BYTES + RECORD_BYTES * (size / SHORTEST_BYTES + 1);
+    char *file = malloc(room);
+    if (file)
+        *refusal = pack_list(bytes, size, (unsigned char *)file, room, made);
+    return file;
+}
+
+/* The list of a file, with room for the longest line of each record. */
+static char *unpacked(const char *bytes, size_t size, size_t *made, int *refusal) {
+    size_t room = LONGEST_BYTES * (size / RECORD_BYTES + 1);
+    char *list = malloc(room);
+    if (list)
+        *refusal = unpack_file((const unsigned char *)bytes, size, list, room, made);
+    return list;
+}
+
+/* Runs a conversion from one path to another; the exit status. */
+static int convert(conversion *to_made, const char *from, const char *to) {
+    size_t size, made = 0;
+    int refusal = 0;
+    char *bytes = read_path(from, &size), *result = bytes ? to_made(bytes, size, &made, &refusal) : NULL;
+    int done = result && !refusal && write_path(to, result, made);
+    if (refusal)
+        fprintf(stderr, "no %d\n", refusal);
+    else if (!done)
+        fprintf(stderr, "second: %s cannot be %s\n", result ? to : from, result ? "written" : "read");
+    free(bytes);
+    free(result);
+    return !done;
+}
+
 /* Runs the command that the arguments name. */
 int main(int count, char **words) {
     unsigned long long period = 0;
+    if (count == 4 && strcmp(words[1], "pack") == 0)
+        return convert(packed, words[2], words[3]);
+    if (count == 4 && strcmp(words[1], "unpack") == 0)
+        return convert(unpacked, words[2], words[3]);
     const struct command *command = command_of(count, words, &period);
     if (command == NULL) {
-        fputs("second complete|predict|rows|fine|periods|fine-periods|raised|figures|record|marked|each-marked, second period T\n",
+        fputs("second complete|predict|rows|fine|periods|fine-periods|raised|figures|record|marked|each-marked, second period T, "
+              "second pack LIST FILE, second unpack FILE LIST\n",
             stderr);
         return 2;
     }

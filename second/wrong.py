@@ -3,9 +3,10 @@
 second/compare.py must refuse it; with another rounding within the bounds it must pass. Some take the place of both, where no answer
 differs and the comparison must refuse what a program's answers and records show by themselves.
 
-    python3 second/wrong.py [--tables] [--lines N]
+    python3 second/wrong.py [--tables | --files] [--lines N]
 
-With --tables every number of Tables 2 and 3 that a predicted line shows is put wrong by one in its last digit in turn, and the outside
+Programs that are wrong about the file for site lists must be refused by second/compare_files.py; with --files these alone are tried. With
+--tables every number of Tables 2 and 3 that a predicted line shows is put wrong by one in its last digit in turn, and the outside
 numbers of second/vectors.py are tried on it too. Exit 1 if a wrong program passes.
 """
 import argparse
@@ -389,6 +390,101 @@ WRONG_PERIODS = [
     ("main.c", "row.median, row.total);", "row.median, row.intra);"),
 ]
 
+# How the file for site lists is written and read: a number's bytes, the tests of a head, a record's line and its test, a list's lines.
+WRITES = "while (bytes-- > 0) {\n        at[bytes] = number & 255;"
+READS = "256 * number + at[k];"
+BOTH = f"""{WRITES}
+        number >>= 8;
+    }}
+}}
+
+/* The number, 0 or more, of so many bytes. */
+static long long number_of(const unsigned char *at, int bytes) {{
+    long long number = 0;
+    for (int k = 0; k < bytes; k++)
+        number = {READS}"""
+MARKED = "memcmp(file, MARK, sizeof MARK) != 0"
+LENGTH = "size != HEAD_BYTES + RECORD_BYTES * (size_t)number_of(file + sizeof MARK, 2))\n        return NO_LENGTH;\n"
+RECORD = "static size_t line_of(const unsigned char *record, char line[WRITTEN_BYTES]) {\n"
+AGAIN = "return memcmp(again, record, RECORD_BYTES) == 0 ? size : 0;"
+SIGNED_ZERO = """if (memcmp(again, record, RECORD_BYTES) != 0)
+        return 0;
+    char *rake = strchr(line, ' ') + 1;
+    if (rake[0] != '0')
+        return size;
+    memmove(rake + 1, rake, size - (size_t)(rake - line));
+    rake[0] = '-';
+    return size + 1;"""
+FIRST_TEST = "if (size < sizeof MARK ||"
+FIELDS_FIRST = """for (size_t at = HEAD_BYTES; at + RECORD_BYTES <= size; at += RECORD_BYTES)
+        if (line_of(file + at, line) == 0)
+            return NO_FIELD;
+    """
+LINE_END = "const char *end = memchr(list + at, '\\n', size - at);"
+EACH_LINE = "for (size_t at = 0; at < size; count++) {"
+WRITTEN = "result && !refusal && write_path(to, result, made)"
+
+
+def low_first(text):
+    """Numbers with their low byte first."""
+    return text.replace(WRITES, "for (int k = 0; k < bytes; k++) {\n        at[k] = number & 255;").replace("at[k];", "at[bytes - 1 - k];")
+
+
+def taken_as(test, change):
+    """A record's line, each field that is so told and changed before: its number's four bytes, its origin's one."""
+    return f"""{RECORD}    unsigned char other[RECORD_BYTES], *number = other, *origin = other + 4 * FIELDS;
+    memcpy(other, record, RECORD_BYTES);
+    record = other;
+    for (int k = 0; k < FIELDS; k++, number += 4, origin++)
+        if ({test})
+            {change};
+"""
+
+
+# What the comparison of files must refuse, likewise.
+WRONG_FILES = [
+    # numbers: low byte first where they are written, where they are read, in both
+    ("files.c", WRITES, low_first(WRITES)),
+    ("files.c", READS, low_first(READS)),
+    ("files.c", BOTH, low_first(BOTH)),
+    # the count: one off, a record more ignored, more or less of a last record
+    ("files.c", "2, count);", "2, count + 1);"),
+    ("files.c", "number_of(file + sizeof MARK, 2))", "(number_of(file + sizeof MARK, 2) + 1))"),
+    ("files.c", LENGTH, LENGTH.replace("!=", "<") + "    size = HEAD_BYTES + RECORD_BYTES * (size_t)number_of(file + sizeof MARK, 2);\n"),
+    ("files.c", "size < HEAD_BYTES || size != ", "size < HEAD_BYTES || size / RECORD_BYTES * RECORD_BYTES + HEAD_BYTES != "),
+    # mark and version: version 2 read, half of it not tested, a mark of two letters; 19 for five and six bytes
+    ("files.c", MARKED, "memcmp(file, MARK, 4) != 0 || file[4] < 1 || file[4] > 2"),
+    ("files.c", MARKED, "memcmp(file, MARK, 3) != 0 || file[4] != 1"),
+    ("files.c", MARKED, "memcmp(file, MARK, 2) != 0 || memcmp(file + 3, MARK + 3, 2) != 0"),
+    ("files.c", "size < sizeof MARK", "size < HEAD_BYTES"),
+    # fields let in: origin 2, origins above 3, a blank with origin 0, a number with origin 3, a minus in M and in Z2.5, seven digits
+    ("files.c", RECORD, taken_as("*origin == ESTIMATED", "*origin = INFERRED")),
+    ("files.c", RECORD, taken_as("*origin > BLANK", "*origin &= BLANK")),
+    ("files.c", RECORD, taken_as("*origin == MEASURED && signed_of(number) == BLANK_NUMBER", "*origin = BLANK")),
+    ("files.c", AGAIN, "return size;"),
+    ("request.c", "k == F_RAKE || k == F_AZIMUTH", "k == F_RAKE || k == F_AZIMUTH || k == F_M"),
+    ("files.c", RECORD, taken_as("k == F_Z25 && signed_of(number) == -1", "put_number(number, 4, 1)")),
+    ("request.c", "count > 6", "count > 7"),
+    # figures made wrong: -0 from 0, a blank's number 0 or one more, an inferred figure measured
+    ("files.c", AGAIN, SIGNED_ZERO),
+    ("files.c", "is_blank(field) ? BLANK_NUMBER : field->number", "field->number"),
+    ("files.c", "(-2147483647L - 1)", "(-2147483647L)"),
+    ("files.c", "(unsigned char)field->origin", "field->origin == INFERRED ? MEASURED : (unsigned char)field->origin"),
+    # the order: 21 before 20, 14 after 20
+    ("files.c", FIRST_TEST, FIELDS_FIRST + FIRST_TEST),
+    ("files.c", EACH_LINE, EACH_LINE + "\n        if (count > MOST_RECORDS)\n            return NO_LENGTH;"),
+    # the lists: a record less and one more than the most, an unfinished line let in and dropped, a request that is refused turned away
+    ("files.h", "#define MOST_RECORDS 65535", "#define MOST_RECORDS 65534"),
+    ("files.h", "#define MOST_RECORDS 65535", "#define MOST_RECORDS 65536"),
+    ("files.c", LINE_END, LINE_END + "\n    end = end ? end : list + size;"),
+    ("files.c", EACH_LINE, "while (size > 0 && list[size - 1] != '\\n')\n        size--;\n    " + EACH_LINE),
+    ("files.c", "- at, request))", "- at, request) || complete_request(request).refusal)"),
+    # the program: a refusal that empties the target, that is status 0, that stands on standard output
+    ("main.c", WRITTEN, "result && write_path(to, result, made) && !refusal"),
+    ("main.c", "return !done;", "return !done && !refusal;"),
+    ("main.c", 'fprintf(stderr, "no %d\\n", refusal);', 'printf("no %d\\n", refusal);'),
+]
+
 # What document 01 leaves open, other roundings within the bounds, and what no answer shows, which the comparison must let pass.
 ALLOWED = [
     ("request.c", "(long)floor(c->exact.w)", "(long)ceil(c->exact.w)"),
@@ -413,6 +509,9 @@ ALLOWED = [
 # The commands that take the proved programs' place, each in the option of its name: all, and those that print a predicted line.
 ALL = ["complete", "predict", "rows", "periods"]
 PRINTING = ["complete", "predict"]
+# The same for files, and how many random lists each program gets.
+PACKING = ["pack", "unpack"]
+LISTS = "30"
 
 
 def edited(file, old, new):
@@ -511,14 +610,31 @@ def try_edits(compare):
     return bad
 
 
+def try_files(second):
+    """Tries the programs that are wrong about files; how many of them pass."""
+    bad = 0
+    for edit in WRONG_FILES:
+        if tried("compare_files.py", edited(*edit), "1", LISTS, "--second", second, commands=PACKING)[0]:
+            bad += 1
+            print(f"FAILED passes: {edit}")
+    print(f"{len(WRONG_FILES)} programs wrong about files tried, {bad} passed")
+    return bad
+
+
 def main():
-    """One of the two trials, and the exit status."""
+    """One of the trials, or the first and the last of them, and the exit status."""
     options = argparse.ArgumentParser(description=__doc__.split("\n")[0])
     options.add_argument("--tables", action="store_true")
+    options.add_argument("--files", action="store_true", help="try the programs that are wrong about files alone")
     options.add_argument("--lines", help="random requests for each program; 6000, and 600 for the tables")
     given = options.parse_args()
-    compare = ["1", given.lines or ("600" if given.tables else "6000"), "--second", build()]
-    sys.exit(1 if (try_tables if given.tables else try_edits)(compare) else 0)
+    second = build()
+    compare = ["1", given.lines or ("600" if given.tables else "6000"), "--second", second]
+    if given.tables:
+        bad = try_tables(compare)
+    else:
+        bad = (0 if given.files else try_edits(compare)) + try_files(second)
+    sys.exit(1 if bad else 0)
 
 
 if __name__ == "__main__":

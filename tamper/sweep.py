@@ -9,12 +9,12 @@ What it tries:
   limits, the styles (crates tables, sigmas, refusals, request, source_stage, path_stage, site_stage), the constants of the estimates and
   of the rupture distance (estimate, rupture), the terms, the site, the sigmas, the short periods, the order of the measures, the report
   and the row at any period (factors, terms, site, sigmas, short_periods, measures, reports, periods), the 64-bit functions (reckon), the
-  text form (text, numerals), a list in parts (lists, kept), one period as text and as numbers (answer, row_numbers), how many arguments a
-  program has (programs). A contract's numbers are claims and no code: they are not altered;
+  text form (text, numerals), a list in parts (lists, kept), site files (fields, cuts, request_lines, records, list_lines, site_files, the blocks
+  of file_streams), one period as text and as numbers (answer, row_numbers), how many arguments a program has (programs, file_programs). A contract's numbers are claims and no code: they are not altered;
 - specs: every number of crates/*/specs but those of the table LEFT; one that neither a place nor LEFT names stops the script.
   --left tells which are left and why;
 - second: the constants, limits and tables of the second program, model.c and request.c with their headers; in main.c how a period is
-  read and refused.
+  read and refused. Its site files have no numbers tried here: second/wrong.py --files has wrong ones.
 
 In the code and in the specs the step is the proof of the lowest crate that must refuse; in the second program it is the comparison of its
 tables with those of the specs, and of its answers with the proved programs and with the rows and periods of the static library. A number
@@ -94,6 +94,7 @@ MORE = [
     ("code", "crates/refusals/src/lib.rt", of("NO_PERIOD"), "one_period"),
     ("code", "crates/refusals/src/lib.rt", of("TOO_LONG"), "lines"),
     ("code", "crates/refusals/src/lib.rt", of("MALFORMED"), "answer"),
+    ("code", "crates/refusals/src/lib.rt", of("NO_FILE FILE_LENGTH FILE_FIELD"), "site_files"),
     ("code", "crates/request/src/lib.rt", of("style_of value_of"), "request"),
     ("code", "crates/source_stage/src/lib.rt", of("hypocentre_tenths complete_hypocentre"), "source_stage"),
     ("code", "crates/path_stage/src/lib.rt", of("is_too_short one_less is_too_far"), "path_stage"),
@@ -116,6 +117,16 @@ MORE = [
     ("code", "crates/reckon/src/*.rt", EVERY, "reckon"),
     ("code", "crates/text/src/*.rt", EVERY, "text"),
     ("code", "crates/numerals/src/*.rt", EVERY, "numerals"),
+    ("code", "crates/fields/src/*.rt", EVERY, "fields"),
+    ("code", "crates/cuts/src/*.rt", EVERY, "cuts"),
+    ("code", "crates/request_lines/src/*.rt", EVERY, "request_lines"),
+    # How many bytes a record has is held to the specs by the crate that goes from one to the next.
+    ("code", "crates/records/src/lib.rt", of("RECORD"), "site_files"),
+    ("code", "crates/records/src/*.rt", EVERY, "records"),
+    ("code", "crates/list_lines/src/*.rt", EVERY, "list_lines"),
+    ("code", "crates/site_files/src/*.rt", EVERY, "site_files"),
+    ("code", "crates/file_streams/src/*.rt", of("BLOCK SOME"), "file_streams"),
+    ("code", "crates/file_programs/src/lib.rt", of("asked_of"), "file_programs"),
     ("code", "crates/lists/src/*.rt", EVERY, "lists"),
     ("code", "crates/kept/src/*.rt", EVERY, "kept"),
     ("code", "crates/answer/src/period.rt", EVERY, "answer"),
@@ -153,6 +164,16 @@ MORE = [
     ("specs", "crates/numerals/specs/*.antt", of("space minus"), "text"),
     ("specs", "crates/numerals/specs/*.antt", of("lf"), "lines"),
     ("specs", "crates/text/specs/*.antt", EVERY, "text"),
+    # What text can hold in a field is held to the code by the records, how fields follow each other by the lines.
+    ("specs", "crates/fields/specs/*.antt", of("held"), "records"),
+    ("specs", "crates/fields/specs/*.antt", EVERY, "request_lines"),
+    ("specs", "crates/cuts/specs/*.antt", EVERY, "cuts"),
+    ("specs", "crates/records/specs/*.antt", EVERY, "records"),
+    ("specs", "crates/list_lines/specs/*.antt", EVERY, "list_lines"),
+    ("specs", "crates/site_files/specs/*.antt", EVERY, "site_files"),
+    ("specs", "crates/whole_files/specs/*.antt", of("slash"), "whole_files"),
+    ("specs", "crates/file_streams/specs/*.antt", EVERY, "file_streams"),
+    ("specs", "crates/file_programs/specs/*.antt", of("askedOf EndsAs"), "file_programs"),
     ("specs", "crates/lines/specs/*.antt", EVERY, "lines"),
     ("specs", "crates/prediction/specs/*.antt", of("rowsFrom rowsOf spectrumFor"), "prediction"),
     ("specs", "crates/prediction/specs/*.antt", of("refusalIn"), "one_measure"),
@@ -163,7 +184,7 @@ MORE = [
     ("specs", "crates/filter/specs/*.antt", of("statusOf"), "filter"),
     ("specs", "crates/programs/specs/*.antt", of("askedOf EndsAs"), "programs"),
     ("second", "second/model.c", of("C N ROCK SIGMA_AF PERIOD is_short f_mag f_flt f_hng_r f_hng_m f_hng f_sed rock_pga slope intra_squared"), None),
-    ("second", "second/*.h", re.compile(r": #define "), None),
+    ("second", "second/[mr]*.h", re.compile(r": #define "), None),
     ("second", "second/main.c", re.compile(r"^(PERIOD_DIGITS|row_of|parse_period|period_before): (?!.*(for \(|digits = 0|return [01];))"), None),
     ("second", "second/request.c", of("style_of sine cosine estimate_(?!request).* hypocentre root_up across_strike fill_.* figures_of"), None),
     ("second", "second/request.c", re.compile(r"^parse_field: .*(count|digits\[)|^parse_line: .*FIELDS"), None),
@@ -204,6 +225,7 @@ SAME = [
     ("crates/text/specs/*", r"(?<=getD s 0 )0", "the byte of an empty word: no byte that is asked for"),
     ("crates/numerals/specs/*", r"(?<=getD s 0 )0", "the byte past an end, which is not read"),
     ("crates/lines/specs/*", r"(?<=getD [ls] \d )0", "the byte past an end, where none is"),
+    ("crates/records/specs/*", r"(?<=fields \+ k\) )0", "the byte past an end, which is not read"),
     ("crates/lists/specs/*", r"(?<=\(longest \+ 1\) )0|(?<=replicate longest )0", "what fills a place that is not read"),
     ("crates/outcome/specs/*", r"^tooFar: .*leb 1", "an RRUP of 0 or 1 less a metre is 0, and so never too long"),
     ("second/model.c", r"(?<=ROCK, )0", "the A1100 of the rock's own site term, which its branch does not read"),
@@ -241,7 +263,8 @@ LEFT = [
     ("crates/tables/specs/*", r"^neg: .*", "-0: no number is printed so"),
     ("crates/model/specs/*", r"^no(Fine|Shown): .*", "past the end of a list: never read"),
     ("crates/examples/specs/*", r".*", "document 01's examples: the test itself"),
-    ("crates/programs/specs/*", r"^EndsAs: .*≤ 1", "the bound of an exit status: programs/test tries which it is"),
+    ("crates/whole_files/specs/*", r"^(longestPath|nameRoom): .*", PROMISE),
+    ("crates/*programs/specs/*", r"^EndsAs: .*≤ 1", "the bound of an exit status: programs/test tries which it is"),
 ]
 
 

@@ -2,7 +2,8 @@
 //! the Campbell-Bozorgnia 2008 equations. A line is any bytes, without the LF; what is not a request is refused
 //! with number 14. A figure with a `~` before it is one that the caller inferred and did not measure, which changes no
 //! number of an answer. A list of lines is answered in parts by [`Reader`], and by [`Answers`] for what writes to
-//! [`std::io::Write`].
+//! [`std::io::Write`]. Such a list is written as a file by [`pack`], read back by [`unpack`], and its records are
+//! answered one by one by [`records`].
 //!
 //! For every request that is accepted ln median and each sigma lie within one in the sixth place, one millionth, of
 //! the exact value, and the median within 1 + Y/500000 of the exact Y, counted in its unit of 10^-10: in a spectrum, at
@@ -11,8 +12,10 @@
 //! Each function here calls one proved function of `libexport.a`; `c/xanhupive.h` says what is promised
 //! of each. The slices and references of Rust keep all that it asks of a caller.
 
+mod files;
 mod parts;
 
+pub use files::{pack, pack_into, records, unpack, unpack_into, Record, FILE_HEAD, MOST_RECORDS, RECORD};
 pub use parts::{Answers, Reader, Sheet, READER};
 
 /// The most bytes that a request line may have before its LF; no request has more than 105.

@@ -1,6 +1,6 @@
--- What the answer to a line is, by what was read and by the sheet. Assumes nothing.
+-- What the answer to a request is, by the sheet, and that to a line, by what was read. Assumes nothing.
 use Prim.Native.Nat.{ℕ}
-use mathlib.Core.Path.{_≡_}
+use mathlib.Core.Path.{_≡_, refl}
 use mathlib.Core.List.{List}
 use Rattle.refusals.specs.Order as No
 use Rattle.request.specs.declared.Request.{Request}
@@ -13,21 +13,28 @@ use Rattle.lines.specs.Lines.{noLine, completionLine}
 use Rattle.answer.specs.declared.Sheet.{Sheet}
 use Rattle.answer.specs.declared.Sheet.the-variants as S
 use Rattle.answer.specs.RowLines.{spectrumLines, periodLine}
-use Rattle.answer.specs.Sheets.{answerTo}
+use Rattle.answer.specs.Sheets.{sheetOf, answerTo}
 
-pub malformed-line : (sheet : Sheet) (s : List ℕ) → lineOf s ≡ L.Malformed → answerTo sheet s ≡ noLine No.malformed
-unfolding answerTo
-malformed-line sheet s e = rw e
+-- ---- a request
+module _ (r : Request) where
+  pub completion-lines : sheetOf S.Completion r ≡ completionLine (completionOf r)
+  unfolding sheetOf
+  completion-lines = refl
 
-module _ (s : List ℕ) (r : Request) (e : lineOf s ≡ L.Is r) where
-  pub completion-lines : answerTo S.Completion s ≡ completionLine (completionOf r)
+  pub prediction-lines : sheetOf S.Prediction r ≡ spectrumLines (shownSpectrumOf r)
+  unfolding sheetOf
+  prediction-lines = refl
+
+  pub period-lines : (t : ℕ) → sheetOf (S.Period t) r ≡ periodLine t (periodOf r t)
+  unfolding sheetOf
+  period-lines t = refl
+
+-- ---- a line
+module _ (sheet : Sheet) (s : List ℕ) where
+  pub malformed-line : lineOf s ≡ L.Malformed → answerTo sheet s ≡ noLine No.malformed
   unfolding answerTo
-  completion-lines = rw e
+  malformed-line e = rw e
 
-  pub prediction-lines : answerTo S.Prediction s ≡ spectrumLines (shownSpectrumOf r)
+  pub request-line : {r : Request} → lineOf s ≡ L.Is r → answerTo sheet s ≡ sheetOf sheet r
   unfolding answerTo
-  prediction-lines = rw e
-
-  pub period-lines : (t : ℕ) → answerTo (S.Period t) s ≡ periodLine t (periodOf r t)
-  unfolding answerTo
-  period-lines t = rw e
+  request-line e = rw e

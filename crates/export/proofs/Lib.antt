@@ -1,4 +1,5 @@
 pub mod PlaceLaws
 pub mod LineLaws
 pub mod SpectrumLaws
+pub mod RecordRows
 pub mod OneAnswer

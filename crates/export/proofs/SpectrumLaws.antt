@@ -1,11 +1,11 @@
 -- What each answer for a spectrum leaves in the lent numbers. Assumes nothing.
-use Prim.Native.Nat.{ℕ, _*_}
-use mathlib.Core.Path.{_≡_, sym, ap, _∙_}
+use Prim.Native.Nat.{ℕ, _*_, _≤_, _<_}
+use mathlib.Core.Path.{_≡_, ap}
 use mathlib.Core.List.{List}
 use native.Mathlib.Omega.{arith}
-use lib.ListN.{length}
+use lib.ListN.{length, take}
 use lib.Ieee.{Float}
-use borrow.Author.Tests.{ne-eqb}
+use borrow.Author.Tests.{lt-ltb, le-ltb, ne-eqb}
 use Rattle.refusals.specs.Order as No
 use Rattle.request.specs.declared.Request.{Request}
 use Rattle.tables.specs.Tables.{measures}
@@ -16,18 +16,32 @@ use Rattle.lent.specs.declared.Wrote.{Wrote}
 use Rattle.lent.specs.Lent.{numberOf, LentWritten}
 use Rattle.text.specs.declared.read.Line.{Line}
 use Rattle.text.specs.declared.read.Line.the-variants as L
-use Rattle.export.specs.Given.{spectrumNumbers, spectrumAnswer, spectrumRefusal, spectrumAfter, SpectrumGiven}
+use Rattle.records.specs.Records.{recordSize, recordIn}
+use Rattle.kept.specs.Calls.{misuse}
+use Rattle.export.specs.Given.{spectrumOr, recordSpectrum, spectrumNumbers, spectrumRefusal, spectrumAfter, SpectrumGiven}
 use Rattle.export.proofs.PlaceLaws.{length-numbers}
 
-pub of-malformed : (l : Line) → l ≡ L.Malformed → spectrumAnswer l .refusal ≡ No.malformed
-unfolding spectrumAnswer
-of-malformed l e = rw e
+-- ---- what was read
+module _ (n : ℕ) {l : Line} where
+  pub of-malformed : l ≡ L.Malformed → spectrumOr n l .refusal ≡ n
+  unfolding spectrumOr
+  of-malformed e = rw e
 
-pub of-request : (l : Line) (r : Request) → l ≡ L.Is r → spectrumAnswer l ≡ floatSpectrumOf r
-unfolding spectrumAnswer
-of-request l r e = rw e
+  pub of-request : {r : Request} → l ≡ L.Is r → spectrumOr n l ≡ floatSpectrumOf r
+  unfolding spectrumOr
+  of-request e = rw e
 
--- by the refusal of the request, and the room
+-- ---- a record, by how many bytes there are
+module _ (s : List ℕ) where
+  pub record-short : length s < recordSize → recordSpectrum s .refusal ≡ misuse
+  unfolding recordSpectrum
+  record-short h = rw (lt-ltb (length s) recordSize h)
+
+  pub record-long : recordSize ≤ length s → recordSpectrum s ≡ spectrumOr No.fileField (recordIn (take recordSize s))
+  unfolding recordSpectrum
+  record-long h = rw (le-ltb (length s) recordSize h)
+
+-- ---- by the refusal and the room
 module _ (s : FloatSpectrum) (b : List Float) where
   -- a number other than 0 leaves all as it was
   pub spectrum-refused : (n : ℕ) → s .refusal ≡ n → (n ≡ 0 → ⊥) → SpectrumGiven s b n b

@@ -3,9 +3,10 @@ use Prim.Native.Nat.{ℕ}
 use mathlib.Core.Path.{_≡_}
 use mathlib.Core.Bool.{cond}
 use mathlib.Core.List.{List, [], _∷_, _++_}
-use lib.Dec.{eqb}
-use lib.ListN.{length}
+use lib.Dec.{eqb, ltb}
+use lib.ListN.{length, take}
 use lib.Ieee.{Float}
+use Rattle.refusals.specs.Order as No
 use Rattle.prediction.specs.declared.floats.FloatRow.{FloatRow}
 use Rattle.prediction.specs.declared.floats.FloatSpectrum.{FloatSpectrum}
 use Rattle.prediction.specs.Floats.{floatSpectrumOf}
@@ -14,7 +15,8 @@ use Rattle.lent.specs.Lent as Lent
 use Rattle.lent.specs.Lent.{countOf, wrote, after}
 use Rattle.text.specs.declared.read.Line.{Line}
 use Rattle.text.specs.declared.read.Line.the-variants as L
-use Rattle.text.specs.Grammar.{numberOf}
+use Rattle.records.specs.Records.{recordSize, recordIn}
+use Rattle.kept.specs.Calls.{misuse}
 
 -- ---- a line
 -- what is promised of the line s and the lent bytes b: the count n of those written, and the bytes b₁ that b became. No answer line is
@@ -24,11 +26,20 @@ pub record LineGiven (b s : List ℕ) (n : ℕ) (b₁ : List ℕ) : Type 0 where
   pub bytes : b₁ ≡ after b s
 
 -- ---- a spectrum
--- that of a line: a malformed one is refused, and has no rows
-unfoldable pub spectrumAnswer : Line → FloatSpectrum
+-- a refused one has no rows
+abbrev refused : ℕ → FloatSpectrum
+refused n = record { refusal = n; rows = [] }
+
+-- that of what was read, refused with the number n if it is malformed
+unfoldable pub spectrumOr : ℕ → Line → FloatSpectrum
 unfolding floatSpectrumOf
-spectrumAnswer (L.Is r) = floatSpectrumOf r
-spectrumAnswer L.Malformed = record { refusal = numberOf L.Malformed; rows = [] }
+spectrumOr n (L.Is r) = floatSpectrumOf r
+spectrumOr n L.Malformed = refused n
+
+-- that of a record, read from the first bytes, of which too few are misuse
+unfoldable pub recordSpectrum : List ℕ → FloatSpectrum
+unfolding spectrumOr recordIn
+recordSpectrum s = cond (ltb (length s) recordSize) (refused misuse) (spectrumOr No.fileField (recordIn (take recordSize s)))
 
 -- row after row
 unfoldable pub numbersOf : List FloatRow → List Float

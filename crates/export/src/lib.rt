@@ -1,24 +1,23 @@
 // The functions that a service in C or Rust calls. None asks anything of the bytes and numbers that it
 // is lent, and a refusal changes none of them.
+mod files;
 mod measure;
 mod parts;
 mod period;
 mod rows;
+mod spectrum;
 
 use answer::Sheet;
 use answer::answer_line;
 use lent::count_of;
-use prediction::predict_floats;
 use refusals::MALFORMED;
-use refusals::TOO_LONG;
-use rows::NUMBERS;
-use rows::put_rows;
-use text::Line;
+use spectrum::spectrum_or;
 use text::read_line;
+ghost use Rattle.refusals.specs.Order as No;
 ghost use Rattle.text.specs.Grammar.{lineOf};
 ghost use Rattle.answer.specs.declared.Sheet.the-variants as S;
 ghost use Rattle.answer.specs.Sheets.{answerTo};
-ghost use Rattle.export.specs.Given.{LineGiven, SpectrumGiven, spectrumAnswer};
+ghost use Rattle.export.specs.Given.{LineGiven, SpectrumGiven, spectrumOr};
 
 // The completing program's answer to a line without its LF: how many bytes it has at the start of
 // `out`, or 0 where it is longer, and then no byte has changed.
@@ -42,20 +41,7 @@ pub extern "C" fn xanhupive_predict_line(line: &[u8], out: &mut [u8]) -> usize
 // number, and then no number has changed.
 #[no_mangle]
 pub extern "C" fn xanhupive_spectrum(line: &[u8], rows: &mut [f64]) -> u32
-    ensures { λ n. ⌜ SpectrumGiven (spectrumAnswer (lineOf (now (line .entry)))) (now (rows .entry)) n (now (rows .exit)) ⌝ }
+    ensures { λ n. ⌜ SpectrumGiven (spectrumOr No.malformed (lineOf (now (line .entry)))) (now (rows .entry)) n (now (rows .exit)) ⌝ }
 {
-    let Line::Is(r) = read_line(line) else {
-        return MALFORMED;
-    };
-    let s = predict_floats(r);
-    let refusal = s.refusal;
-    if refusal != 0 {
-        return refusal;
-    }
-    if rows.len() < NUMBERS {
-        return TOO_LONG;
-    }
-    let made = s.rows;
-    put_rows(rows, made);
-    0
+    spectrum_or(read_line(line), MALFORMED, rows)
 }

@@ -11,16 +11,16 @@ ghost use mathlib.Core.Path.{_≡_};
 ghost use Rattle.kept.specs.Calls.{loan, numbered, beginTold, partTold, closeTold};
 
 // The number of a call that is wrong in itself, which is no refusal.
-const MISUSE: u32 = 255;
+pub const MISUSE: u32 = 255;
 
 // A sheet asked for by its number, or none that there is.
-enum Asked {
+pub enum Asked {
     Sheet(Sheet),
     None,
 }
 
 // The sheet of a number.
-fn sheet_numbered(n: u64) -> Asked
+pub fn sheet_numbered(n: u64) -> Asked
     ensures { λ a. ⌜ a ≡ numbered n ⌝ }
 {
     if n == 0 {

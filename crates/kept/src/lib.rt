@@ -2,8 +2,11 @@
 // how many these are. Any bytes are some reader.
 mod calls;
 
+pub use calls::Asked;
+pub use calls::MISUSE;
 pub use calls::begin_reader;
 pub use calls::close_in;
+pub use calls::sheet_numbered;
 pub use calls::take_in;
 use lent::put_byte;
 use lent::put_text;

@@ -1,3 +1,4 @@
 pub mod PutLaws
 pub mod WroteLaws
 pub mod PartLaws
+pub mod LeftLaws

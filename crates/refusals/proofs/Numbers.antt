@@ -8,7 +8,7 @@ use Rattle.refusals.specs.Order.{order, apart, upTo}
 
 -- not given yet
 abbrev later : List ℕ
-later = 19 ∷ 20 ∷ 21 ∷ 22 ∷ 23 ∷ 24 ∷ 25 ∷ []
+later = 22 ∷ 23 ∷ 24 ∷ 25 ∷ []
 
 pub numbers-apart : T (apart (order ++ later))
 numbers-apart = tt

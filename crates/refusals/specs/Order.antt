@@ -14,6 +14,18 @@ malformed = 14
 abbrev pub marked : ℕ
 marked = 26
 
+-- the file has another mark or version
+abbrev pub noFile : ℕ
+noFile = 19
+
+-- the file is longer or shorter than its count says, or has too many records
+abbrev pub fileLength : ℕ
+fileLength = 20
+
+-- a field of a file's record
+abbrev pub fileField : ℕ
+fileField = 21
+
 abbrev pub rake : ℕ
 rake = 1
 
@@ -80,6 +92,9 @@ abbrev pub order : List ℕ
 order =
     malformed
     ∷ marked
+    ∷ noFile
+    ∷ fileLength
+    ∷ fileField
     ∷ rake
     ∷ magnitude
     ∷ vs30

@@ -8,6 +8,15 @@ pub const MALFORMED: u32 = 14;
 // A figure is already marked as estimated by us.
 pub const MARKED: u32 = 26;
 
+// The file has another mark or version.
+pub const NO_FILE: u32 = 19;
+
+// The file is longer or shorter than its count says, or has too many records.
+pub const FILE_LENGTH: u32 = 20;
+
+// A field of a file's record.
+pub const FILE_FIELD: u32 = 21;
+
 // The rake.
 pub const RAKE: u32 = 1;
 

@@ -3,6 +3,9 @@
 mod figures;
 mod read;
 
+pub use figures::Word;
 pub use read::LONGEST;
 pub use read::Line;
 pub use read::read_line;
+pub use read::request_of;
+pub use read::signed_at;

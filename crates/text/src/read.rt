@@ -33,14 +33,14 @@ fn space_from(s: &[u8], at: usize) -> usize
 }
 
 // Whether a field, numbered from 0, may have a minus sign: rake and azimuth.
-fn signed_at(k: usize) -> bool
+pub fn signed_at(k: usize) -> bool
     ensures { λ r. ⌜ r ≡ signedAt k ⌝ }
 {
     k == 1 || k == 8
 }
 
 // The request of thirteen fields in their order.
-fn request_of(f: [Field; 13]) -> Request
+pub fn request_of(f: [Field; 13]) -> Request
     ensures { λ r. ⌜ r ≡ requestOf f ⌝ }
 {
     let m = f[0];

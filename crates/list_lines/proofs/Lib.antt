@@ -1,0 +1,3 @@
+pub mod LineLaws
+pub mod SurveyLaws
+pub mod ListBack

@@ -1,0 +1,4 @@
+pub mod CanonicalNumber
+pub mod FieldBack
+pub mod LineBack
+pub mod RestLaws
