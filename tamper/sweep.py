@@ -173,7 +173,7 @@ MORE = [
     ("specs", "crates/site_files/specs/*.antt", EVERY, "site_files"),
     ("specs", "crates/whole_files/specs/*.antt", of("slash"), "whole_files"),
     ("specs", "crates/file_streams/specs/*.antt", EVERY, "file_streams"),
-    ("specs", "crates/file_programs/specs/*.antt", of("askedOf EndsAs"), "file_programs"),
+    ("specs", "crates/file_programs/specs/*.antt", of("askedOf Finished EndsAs"), "file_programs"),
     ("specs", "crates/lines/specs/*.antt", EVERY, "lines"),
     ("specs", "crates/prediction/specs/*.antt", of("rowsFrom rowsOf spectrumFor"), "prediction"),
     ("specs", "crates/prediction/specs/*.antt", of("refusalIn"), "one_measure"),
@@ -264,7 +264,7 @@ LEFT = [
     ("crates/model/specs/*", r"^no(Fine|Shown): .*", "past the end of a list: never read"),
     ("crates/examples/specs/*", r".*", "document 01's examples: the test itself"),
     ("crates/whole_files/specs/*", r"^(longestPath|nameRoom): .*", PROMISE),
-    ("crates/*programs/specs/*", r"^EndsAs: .*≤ 1", "the bound of an exit status: programs/test tries which it is"),
+    ("crates/*programs/specs/*", r"^(EndsAs|Finished): .*≤ 1", "the bound of an exit status: programs/test and programs/test_files try which it is"),
 ]
 
 

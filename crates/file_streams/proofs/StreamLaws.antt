@@ -1,16 +1,17 @@
 -- Blocks one after another are the whole; what is written of a block has room; and how lines are counted. Assumes nothing.
-use Prim.Native.Nat.{ℕ, _+_, _*_, _≤_, _<_}
-use mathlib.Core.Path.{_≡_, refl, sym, ap, _∙_}
-use mathlib.Core.Bool.{true}
+use Prim.Native.Nat.{ℕ, _+_, _*_, _-_, _≤_, _<_}
+use mathlib.Core.Path.{_≡_, refl, sym, subst, ap, _∙_}
+use mathlib.Core.Bool.{Bool, true}
 use mathlib.Core.List.{List, [], _++_}
-use native.Mathlib.Nat.{zero-add}
 use native.Mathlib.Omega.{arith}
-use lib.ListN.{length, take, drop}
-use lib.Seq.{length-take-le}
+use lib.ListN.{length, take, drop, length-drop}
+use lib.Seq.{length-take-le, take-append-seam}
 use Rattle.cuts.specs.Cuts.{upTo}
-use Rattle.lent.specs.Lent.{put, Written}
+use Rattle.lent.specs.Lent.{Written}
 use Rattle.lent.proofs.PutLaws.{length-put, take-put}
+use Rattle.lent.proofs.PartLaws.{rest}
 use Rattle.numerals.specs.Render.{lf}
+use Rattle.text.specs.Grammar.{longest}
 use Rattle.request_lines.specs.RequestText.{listText}
 use Rattle.records.specs.Records.{recordSize}
 use Rattle.list_lines.specs.ListLines.{linesOf, allRead, requestsIn}
@@ -20,7 +21,12 @@ use Rattle.site_files.specs.Format.{mostRecords, recordsOf, recordsIn}
 use Rattle.site_files.proofs.Pieces.{records-append, text-append}
 use Rattle.site_files.proofs.RecordsBack.{length-records}
 use Rattle.site_files.proofs.RecordSteps.{records-join-in}
-use Rattle.file_streams.specs.Ends.{linesSoFar}
+use Rattle.file_streams.specs.declared.End.{End}
+use Rattle.file_streams.specs.declared.pack.Read.{Read}
+use Rattle.file_streams.specs.declared.pack.Read.the-variants as R
+use Rattle.file_streams.specs.declared.pack.Step.{Step}
+use Rattle.file_streams.specs.declared.pack.Turn.{Turn}
+use Rattle.file_streams.specs.Ends.{linesSoFar, Stepped, going, StepEnds, Taken, too-long, taken, Closed, unfinished, ReadEnd, PackEnd, malformed, too-many, Behind, UnpackEnd, whole, other-length, a-field, failed}
 
 -- ---- blocks
 -- the records of whole lines, and of what follows them, are those of all
@@ -59,12 +65,61 @@ module _ {b s : List ℕ} {p : ℕ} {b₁ : List ℕ} (room : length s ≤ lengt
   stands =
       ap (λ (n : ℕ). take n b₁) (w .place) ∙ ap (take (0 + length s)) (w .became) ∙ take-put b 0 s (omega arith)
 
+  -- whatever has come behind it
+  pub front-stays : (x : List ℕ) → take (length s) (take p b₁ ++ x) ≡ s
+  front-stays x = rw (stands) (take-append-seam s x)
+
+-- of a list the part from a place on
+pub rest-stands :
+    (b s : List ℕ) (n : ℕ) {p : ℕ} {b₁ : List ℕ} → length s - n ≤ length b → Written b 0 (take (length s - n) (drop n s)) p b₁
+    → take (length s - n) b₁ ≡ drop n s
+rest-stands b s n {p} {b₁} room w =
+    let l : length (take (length s - n) (drop n s)) ≡ length s - n = ap length (rest s n) ∙ length-drop n s in
+    let k : length s - n ≡ p = omega (arith, w .place, l) in
+    ap (λ (m : ℕ). take m b₁) k ∙ stands (omega (arith, l)) w ∙ rest s n
+
+-- ---- what comes of a block
+-- what comes of lines is what may
+step-ends : {count : ℕ} {lines : List ℕ} {s : Step} → Stepped count lines s → StepEnds s
+unfolding linesSoFar
+step-ends (going e) = omega arith
+step-ends (malformed e) = refl
+step-ends failed = omega arith
+
+module _ {count : ℕ} {block held : List ℕ} {t : Turn} where
+  -- what is held can still be a line
+  pub taken-short : Taken count block held t → t .kept ≤ longest
+  taken-short (too-long h k s) = omega (arith, k)
+  taken-short (taken h e s) = h
+
+  pub taken-ends : Taken count block held t → StepEnds (t .step)
+  taken-ends (too-long h k s) = subst StepEnds (sym s) refl
+  taken-ends (taken h e s) = step-ends s
+
+-- ---- how a run ends
+closed-end : {kept count : ℕ} {e : End} → Closed kept count e → PackEnd e
+closed-end (unfinished h) = malformed
+closed-end (too-many h k) = too-many
+closed-end (whole h k) = whole
+closed-end failed = failed
+
+pub read-end : (kept count : ℕ) (r : Read) {e : End} → ReadEnd kept count r e → PackEnd e
+read-end kept count (R.Bytes n) h = subst PackEnd (sym h) failed
+read-end kept count R.Ended h = closed-end h
+read-end kept count R.Failed h = subst PackEnd (sym h) failed
+
+pub behind-end : {sound : Bool} {e : End} → Behind sound e → UnpackEnd e
+behind-end (whole h) = whole
+behind-end other-length = other-length
+behind-end (a-field h) = a-field
+behind-end failed = failed
+
 -- ---- how many lines
 module _ (count : ℕ) (lines : List ℕ) where
   pub so-many : count + length (linesOf lines) ≤ mostRecords → linesSoFar count lines ≡ count + length (linesOf lines)
   unfolding linesSoFar
   so-many h = omega arith
 
-  pub too-many : mostRecords < count + length (linesOf lines) → linesSoFar count lines ≡ mostRecords + 1
+  pub more : mostRecords < count + length (linesOf lines) → linesSoFar count lines ≡ mostRecords + 1
   unfolding linesSoFar
-  too-many h = omega arith
+  more h = omega arith

@@ -1,9 +1,11 @@
 -- How a list or a file that is read in blocks is taken, block by block, and how a run ends. Definitions only.
-use Prim.Native.Nat.{ℕ, _+_, _≤_, min}
+use Prim.Native.Nat.{ℕ, _+_, _-_, _≤_, _<_, min}
 use mathlib.Core.Path.{_≡_}
 use mathlib.Core.Bool.{Bool, true, false}
 use mathlib.Core.List.{List}
-use lib.ListN.{length}
+use lib.ListN.{length, take, drop}
+use Rattle.cuts.specs.Cuts.{upTo}
+use Rattle.numerals.specs.Render.{lf}
 use Rattle.refusals.specs.Order as No
 use Rattle.text.specs.Grammar.{longest}
 use Rattle.list_lines.specs.ListLines.{linesOf, allRead}
@@ -48,10 +50,23 @@ StepEnds (S.Going n) = n ≤ mostRecords + 1
 StepEnds (S.Refused k) = k ≡ No.malformed
 StepEnds S.Failed = Unit {0}
 
--- a block taken: what is held is short enough for a line
-pub record Taken (t : Turn) : Type 0 where
-  pub held : t .kept ≤ longest
-  pub ends : StepEnds (t .step)
+-- a block taken after so many lines: what is behind its last LF is held and what is before that packed, or it is too long for a line
+pub data Taken (count : ℕ) (block held : List ℕ) (t : Turn) : Type 0 where
+  too-long : longest < length block - upTo lf block → t .kept ≡ 0 → t .step ≡ S.Refused No.malformed → Taken count block held t
+  taken : t .kept ≤ longest → take (t .kept) held ≡ drop (upTo lf block) block → Stepped count (take (upTo lf block) block) (t .step) → Taken count block held t
+
+-- the end of a list, of whose last line so many bytes are held, after so many lines: unfinished, too many, whole, or not written by the system
+pub data Closed (kept count : ℕ) : End → Type 0 where
+  unfinished : 0 < kept → Closed kept count (E.Refused No.malformed)
+  too-many : kept ≤ 0 → mostRecords < count → Closed kept count (E.Refused No.fileLength)
+  whole : kept ≤ 0 → count ≤ mostRecords → Closed kept count E.Whole
+  failed : Closed kept count E.Failed
+
+-- where nothing more is read: the end of the list, or a failure
+abbrev pub ReadEnd : ℕ → ℕ → Read → End → Type 0
+ReadEnd kept count (R.Bytes n) e = e ≡ E.Failed
+ReadEnd kept count R.Ended e = Closed kept count e
+ReadEnd kept count R.Failed e = e ≡ E.Failed
 
 -- a run: whole, refused with a number of the writer's, or failed by the system
 pub data PackEnd : End → Type 0 where
@@ -85,6 +100,13 @@ abbrev pub isFailed : Block → Bool
 isFailed B.Written = false
 isFailed B.Malformed = false
 isFailed B.Failed = true
+
+-- the end of a file whose records were all well-formed, or not: nothing may follow them
+pub data Behind (sound : Bool) : End → Type 0 where
+  whole : sound ≡ true → Behind sound E.Whole
+  other-length : Behind sound (E.Refused No.fileLength)
+  a-field : sound ≡ false → Behind sound (E.Refused No.fileField)
+  failed : Behind sound E.Failed
 
 -- a run: whole, refused with a number of the reader's, or failed by the system
 pub data UnpackEnd : End → Type 0 where

@@ -14,11 +14,11 @@ use site_files::put_records;
 use text::LONGEST;
 ghost use mathlib.Core.Path.{_≡_};
 ghost use Prim.Native.Nat.{_+_, _≤_};
-ghost use lib.ListN.{length};
+ghost use lib.ListN.{length, take};
 ghost use Rattle.text.specs.Grammar.{longest};
 ghost use Rattle.list_lines.specs.ListLines.{linesOf, requestsIn};
 ghost use Rattle.site_files.specs.Format.{mostRecords, headOf, recordsOf};
-ghost use Rattle.file_streams.specs.Ends.{blockSize, roomSize, ReadTo, Stepped, Taken, StepEnds, PackEnd};
+ghost use Rattle.file_streams.specs.Ends.{blockSize, roomSize, ReadTo, Stepped, StepEnds, Taken, Closed, ReadEnd, PackEnd};
 
 // The most bytes of a list that are taken at once.
 const BLOCK: usize = 16384;
@@ -43,8 +43,15 @@ struct Turn {
     step: Step,
 }
 
-// Nothing can be said of what the system does with bytes. What is handed to it can: the two that
+// Nothing can be said of what the system does with bytes. What is handed to it can: the three that
 // follow take besides the bytes what these must be.
+
+// Writes a head that has no count yet.
+fn put_first(file: i32, path: &[u8], head: &[u8]) -> bool
+    requires { ⌜ now head ≡ headOf 0 ⌝ }
+{
+    put_all(file, path, head)
+}
 
 // Writes the records of some lines.
 fn put_block(file: i32, path: &[u8], lines: &[u8], records: &[u8]) -> bool
@@ -86,7 +93,7 @@ fn pack_lines(file: i32, path: &[u8], count: usize, lines: &[u8], out: &mut [u8]
 // The end of a list, of whose last line so many bytes came without an LF.
 fn end_pack(file: i32, path: &[u8], kept: usize, count: usize, out: &mut [u8]) -> End
     requires { ⌜ roomSize ≤ length (now out) ⌝ }
-    ensures { λ e. ⌜ PackEnd e ⌝ }
+    ensures { λ e. ⌜ Closed kept count e ⌝ }
 {
     if 0 < kept {
         return End::Refused(MALFORMED);
@@ -113,7 +120,7 @@ fn take_block(
     out: &mut [u8],
 ) -> Turn
     requires { ⌜ (count ≤ mostRecords + 1) × (length (now block) ≤ blockSize) × (longest ≤ length (now held)) × (roomSize ≤ length (now out)) ⌝ }
-    ensures { λ t. ⌜ Taken t ⌝ }
+    ensures { λ t. ⌜ Taken count (now (block .entry)) (now (held .exit)) t ⌝ }
 {
     let cut = up_to_last(block, b'\n');
     let kept = block.len() - cut;
@@ -133,7 +140,7 @@ fn take_block(
 // How a run ends where nothing more is read.
 fn end_read(read: Read, file: i32, path: &[u8], kept: usize, count: usize, out: &mut [u8]) -> End
     requires { ⌜ roomSize ≤ length (now out) ⌝ }
-    ensures { λ e. ⌜ PackEnd e ⌝ }
+    ensures { λ e. ⌜ ReadEnd kept count read e ⌝ }
 {
     match read {
         Read::Bytes(_) => End::Failed,
@@ -157,7 +164,7 @@ fn end_of(step: Step) -> End
 // Lays what is held in a block and reads behind it: how many bytes there are then, if any came.
 fn read_behind(list: i32, path: &[u8], held: &[u8], block: &mut [u8]) -> Read
     requires { ⌜ length (now held) ≤ length (now block) ⌝ }
-    ensures { λ r. ⌜ ReadTo (length (now (block .exit))) r ⌝ }
+    ensures { λ r. ⌜ (ReadTo (length (now (block .exit))) r) × (take (length (now (held .entry))) (now (block .exit)) ≡ now (held .entry)) ⌝ }
 {
     let kept = put_text(block, 0, held);
     let got = libc::read(list, &mut block[kept..]);
@@ -214,7 +221,7 @@ pub fn pack_stream(list: i32, list_path: &[u8], file: i32, file_path: &[u8]) -> 
     let mut held = [0u8; LONGEST];
     let mut out = io::large_buffer();
     let p = put_head(&mut out, 0);
-    if !put_all(file, file_path, &out[..p]) {
+    if !put_first(file, file_path, &out[..p]) {
         return End::Failed;
     }
     read_list(

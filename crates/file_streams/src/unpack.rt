@@ -18,8 +18,8 @@ ghost use lib.ListN.{length};
 ghost use Rattle.request_lines.specs.RequestText.{listText};
 ghost use Rattle.records.specs.Records.{recordSize};
 ghost use Rattle.list_lines.specs.ListLines.{requestsIn};
-ghost use Rattle.site_files.specs.Format.{mostRecords, recordsIn};
-ghost use Rattle.file_streams.specs.Ends.{roomSize, someRecords, isWritten, isFailed, Unblocked, Continued, UnpackEnd};
+ghost use Rattle.site_files.specs.Format.{recordsIn};
+ghost use Rattle.file_streams.specs.Ends.{roomSize, someRecords, isWritten, isFailed, Unblocked, Continued, Behind, UnpackEnd};
 
 // The most records that are taken at once.
 const SOME: usize = 600;
@@ -103,8 +103,8 @@ fn unpack_block(list: i32, path: &[u8], records: &[u8], count: usize, out: &mut 
 }
 
 // The end of a file's records: nothing may follow them, and all must have been well-formed.
-fn end_unpack(file: i32, path: &[u8], is_read: bool) -> End
-    ensures { λ e. ⌜ UnpackEnd e ⌝ }
+fn end_unpack(file: i32, path: &[u8], sound: bool) -> End
+    ensures { λ e. ⌜ Behind sound e ⌝ }
 {
     let mut more = [0u8; 1];
     let got = libc::read(file, &mut more);
@@ -115,7 +115,7 @@ fn end_unpack(file: i32, path: &[u8], is_read: bool) -> End
     if 0 < got {
         return End::Refused(FILE_LENGTH);
     }
-    if is_read {
+    if sound {
         End::Whole
     } else {
         End::Refused(FILE_FIELD)
@@ -126,14 +126,15 @@ fn end_unpack(file: i32, path: &[u8], is_read: bool) -> End
 fn unpack_more(
     list: i32,
     path: &[u8],
-    is_read: bool,
+    sound: bool,
     records: &[u8],
     count: usize,
     out: &mut [u8],
 ) -> Block
     requires { ⌜ (count ≤ someRecords) × (recordSize * count ≤ length (now records)) × (roomSize ≤ length (now out)) ⌝ }
+    ensures { λ b. ⌜ Continued sound count (now (records .entry)) b ⌝ }
 {
-    if is_read {
+    if sound {
         unpack_block(list, path, records, count, out)
     } else {
         Block::Malformed
@@ -154,7 +155,7 @@ fn unpack_records(
     ensures { λ e. ⌜ UnpackEnd e ⌝ }
 {
     let mut left = count;
-    let mut is_read = true;
+    let mut sound = true;
     while left > 0 {
         let some = least(left);
         let size = RECORD * some;
@@ -165,14 +166,14 @@ fn unpack_records(
         if n < size {
             return End::Refused(FILE_LENGTH);
         }
-        let block = unpack_more(list, list_path, is_read, &input[..size], some, out);
+        let block = unpack_more(list, list_path, sound, &input[..size], some, out);
         if is_failed(block) {
             return End::Failed;
         }
-        is_read = is_written(block);
+        sound = is_written(block);
         left -= some;
     }
-    end_unpack(file, file_path, is_read)
+    end_unpack(file, file_path, sound)
 }
 
 // The file read from its beginning to its end.

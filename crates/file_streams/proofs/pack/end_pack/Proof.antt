@@ -6,16 +6,16 @@ use denote.Ref.{now}
 use lib.ListN.{length}
 use Rattle.site_files.specs.Format.{headOf}
 use Rattle.site_files.proofs.HeadBack.{length-head}
-use Rattle.file_streams.specs.Ends.{PackEnd, whole, malformed, too-many, failed}
+use Rattle.file_streams.specs.Ends.{unfinished, too-many, whole, failed}
 use Rattle.file_streams.proofs.StreamLaws.{within, as-long, stands}
 use Rattle.file_streams.proofs.pack.end_pack.Statement.{statement}
 use Rattle.file_streams.proofs.pack.end_pack.Tie as tie
 
 returns : tie.Need-returns
-returns c = malformed
+returns c = unfinished (c .if1 .taken)
 
 returns-2 : tie.Need-returns-2
-returns-2 c = too-many
+returns-2 c = too-many (c .before .if1 .left) (c .if2 .taken)
 
 put-head-requires : tie.Need-put-head-requires
 put-head-requires c κs = search needs
@@ -41,7 +41,9 @@ same-length : tie.Need-same-length
 same-length c = search needs
 
 returns-3 : tie.Need-returns-3
-returns-3 c = whole
+returns-3 c =
+    let e = c .before .before .before .before .before .before .before in
+    whole (e .before .if1 .left) (e .if2 .left)
 
 same-length-2 : tie.Need-same-length-2
 same-length-2 c = search needs

@@ -1,6 +1,5 @@
 -- The end of the list, or nothing that can be read. Of the system it is assumed that each call returns.
 use borrow.Author.Needs.{needs}
-use Rattle.file_streams.specs.Ends.{failed}
 use Rattle.file_streams.proofs.pack.end_read.Statement.{statement}
 use Rattle.file_streams.proofs.pack.end_read.Tie as tie
 
@@ -17,16 +16,18 @@ enum-told-3 : tie.Need-enum-told-3
 enum-told-3 c = search needs
 
 returns : tie.Need-returns
-returns c = failed
+returns c = rw (c .enum-told .given .1)
 
 same-length : tie.Need-same-length
 same-length c = search needs
 
 returns-2 : tie.Need-returns-2
-returns-2 c = search needs
+returns-2 c =
+    let d = c .before .before in
+    rw (d .before .before .enum-told2 .given .1) (d .end-pack .ensures)
 
 returns-3 : tie.Need-returns-3
-returns-3 c = failed
+returns-3 c = rw (c .enum-told3 .given .1)
 
 pub end-read-spec : {M : Type 1} → statement M
 end-read-spec =

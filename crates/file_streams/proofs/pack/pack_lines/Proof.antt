@@ -12,7 +12,7 @@ use Rattle.list_lines.proofs.SurveyLaws.{are-read, not-read}
 use Rattle.site_files.specs.Format.{recordsOf}
 use Rattle.file_streams.specs.declared.pack.Step.the-variants as S
 use Rattle.file_streams.specs.Ends.{linesSoFar, Stepped, going, malformed, failed}
-use Rattle.file_streams.proofs.StreamLaws.{few-lines, records-long, within, as-long, stands, so-many, too-many}
+use Rattle.file_streams.proofs.StreamLaws.{few-lines, records-long, within, as-long, stands, so-many, more}
 use Rattle.file_streams.proofs.pack.pack_lines.Statement.{statement}
 use Rattle.file_streams.proofs.pack.pack_lines.Tie as tie
 
@@ -50,7 +50,7 @@ returns-2 : tie.Need-returns-2
 returns-2 c =
     let n = c .before .before in
     let count = n .before .before .before .before .before .before .args .count in
-    subst (λ (k : ℕ). Stepped count (lines n) (S.Going k)) (too-many count (lines n) (omega (arith, counted n .1, c .if1 .taken))) (going (counted n .0))
+    subst (λ (k : ℕ). Stepped count (lines n) (S.Going k)) (more count (lines n) (omega (arith, counted n .1, c .if1 .taken))) (going (counted n .0))
 
 -- the records have room
 fits : (c : tie.Else1) →

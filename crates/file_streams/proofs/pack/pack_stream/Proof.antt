@@ -6,7 +6,7 @@ use lib.ListN.{length}
 use Rattle.site_files.specs.Format.{headOf}
 use Rattle.site_files.proofs.HeadBack.{length-head}
 use Rattle.file_streams.specs.Ends.{failed}
-use Rattle.file_streams.proofs.StreamLaws.{within, as-long}
+use Rattle.file_streams.proofs.StreamLaws.{within, as-long, stands}
 use Rattle.file_streams.proofs.pack.pack_stream.Statement.{statement}
 use Rattle.file_streams.proofs.pack.pack_stream.Tie as tie
 
@@ -26,11 +26,11 @@ fits c = omega (arith, length-head 0, c .before .before .large-buffer .ensures)
 array-share-prefix-out : tie.Need-array-share-prefix-out
 array-share-prefix-out c = let h = c .before in within (fits h) (h .put-head .ensures)
 
-slice-aggregate-put-all : tie.Need-slice-aggregate-put-all
-slice-aggregate-put-all c = let h = c .before .before in as-long (fits h) (h .put-head .ensures)
+slice-aggregate-put-first : tie.Need-slice-aggregate-put-first
+slice-aggregate-put-first c = let h = c .before .before in as-long (fits h) (h .put-head .ensures)
 
-put-all-requires : tie.Need-put-all-requires
-put-all-requires c κs = search needs
+put-first-requires : tie.Need-put-first-requires
+put-first-requires c κs = let h = c .before .before in stands (fits h) (h .put-head .ensures)
 
 returns : tie.Need-returns
 returns c = failed
@@ -58,8 +58,8 @@ pack-stream-spec =
     slice-aggregate-put-head
     put-head-requires
     array-share-prefix-out
-    slice-aggregate-put-all
-    put-all-requires
+    slice-aggregate-put-first
+    put-first-requires
     returns
     slice-aggregate-read-list
     slice-aggregate-read-list-2

@@ -9,6 +9,7 @@ use lib.Seq.{length-take-le}
 use Rattle.text.specs.Grammar.{longest}
 use Rattle.site_files.specs.Format.{mostRecords}
 use Rattle.file_streams.specs.Ends.{ReadTo, StepEnds, failed}
+use Rattle.file_streams.proofs.StreamLaws.{taken-short, taken-ends, read-end}
 use Rattle.file_streams.proofs.pack.read_list.Statement.{statement}
 use Rattle.file_streams.proofs.pack.read_list.Tie as tie
 
@@ -58,13 +59,17 @@ same-length-3 : tie.Need-same-length-3 Inv-loop μ-loop
 same-length-3 c = search needs
 
 returns : tie.Need-returns Inv-loop μ-loop
-returns c = c .before .before .end-read .ensures
+returns c =
+    let e = c .before .before in
+    let b = e .before .before .before .before .before in
+    let l = b .before .before .before .before in
+    read-end (l .loop .kept) (l .loop .count) (b .read-behind .result) (e .end-read .ensures)
 
 -- what was read is within the bytes lent for it
 within-input : (c : tie.After-read Inv-loop μ-loop) → c .read .given .0 .0 ≤ length (c .before .before .before .before .read-behind .last .1 .1 .1 .0)
 within-input c =
     let b = c .before .before .before .before in
-    subst (ReadTo (length (b .read-behind .last .1 .1 .1 .0))) (c .read .given .1) (b .read-behind .ensures)
+    subst (ReadTo (length (b .read-behind .last .1 .1 .1 .0))) (c .read .given .1) (b .read-behind .ensures .0)
 
 slice-reshare-prefix-take-block : tie.Need-slice-reshare-prefix-take-block Inv-loop μ-loop
 slice-reshare-prefix-take-block c = within-input (c .before)
@@ -89,7 +94,7 @@ enum-known-step : tie.Need-enum-known-step Inv-loop μ-loop
 enum-known-step c = search needs
 
 end-of-requires : tie.Need-end-of-requires Inv-loop μ-loop
-end-of-requires c κs = c .before .before .before .before .before .take-block .ensures .ends
+end-of-requires c κs = taken-ends (c .before .before .before .before .before .take-block .ensures)
 
 same-length-4 : tie.Need-same-length-4 Inv-loop μ-loop
 same-length-4 c = search needs
@@ -118,8 +123,8 @@ loop-again c =
       b .read-behind .kept .1 .1 .1 .0 ∙ l .loop .inv .0,
       t .take-block .kept .1 .1 .1 .1 .0 ∙ l .loop .inv .1,
       t .take-block .kept .1 .1 .1 .1 .1 .0 ∙ l .loop .inv .2,
-      t .take-block .ensures .held,
-      subst StepEnds (n .step .given .1) (t .take-block .ensures .ends),
+      taken-short (t .take-block .ensures),
+      subst StepEnds (n .step .given .1) (taken-ends (t .take-block .ensures)),
     )
 
 same-length-7 : tie.Need-same-length-7 Inv-loop μ-loop

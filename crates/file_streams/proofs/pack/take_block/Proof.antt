@@ -2,13 +2,13 @@
 -- returns.
 use borrow.Author.Needs.{needs}
 use Prim.Native.Nat.{ℕ}
-use mathlib.Core.Path.{refl, sym}
-use mathlib.Core.List.{List}
+use mathlib.Core.Path.{refl, sym, subst, ap, _∙_}
 use native.Mathlib.Omega.{arith}
 use denote.Ref.{now}
+use lib.ListN.{take, drop}
 use lib.Seq.{length-take-le}
-use Rattle.file_streams.specs.declared.pack.Step.{Step}
-use Rattle.file_streams.specs.Ends.{linesSoFar, Stepped, going, malformed, failed, StepEnds}
+use Rattle.file_streams.specs.Ends.{Stepped, too-long, taken}
+use Rattle.file_streams.proofs.StreamLaws.{rest-stands}
 use Rattle.file_streams.proofs.pack.take_block.Statement.{statement}
 use Rattle.file_streams.proofs.pack.take_block.Tie as tie
 
@@ -19,7 +19,7 @@ sub-kept : tie.Need-sub-kept
 sub-kept c = search needs
 
 returns : tie.Need-returns
-returns c = search needs
+returns c = too-long (omega (arith, c .before .up-to-last .ensures, c .if1 .taken)) refl refl
 
 sub-put-text : tie.Need-sub-put-text
 sub-put-text c = search needs
@@ -47,13 +47,6 @@ pack-lines-requires c κs =
       s .pre .3,
     )
 
--- what comes of lines is what may
-step-ends : {count : ℕ} {lines : List ℕ} {s : Step} → Stepped count lines s → StepEnds s
-unfolding linesSoFar
-step-ends (going e) = omega arith
-step-ends (malformed e) = refl
-step-ends failed = omega arith
-
 same-length : tie.Need-same-length
 same-length c = search needs
 
@@ -62,11 +55,15 @@ same-length-2 c = search needs
 
 returns-2 : tie.Need-returns-2
 returns-2 c =
-    let e = c .before .before .before .before .before .before .before .before .before .before in
-    record {
-      held = omega (arith, e .if1 .left);
-      ends = step-ends (c .before .before .pack-lines .ensures);
-    }
+    let w = c .before .before .before .before .before .before .before in
+    let e = w .before .before .before in
+    let u = e .before in
+    let s = u .before .before .before .before .before in
+    let block = now (s .args .block) in
+    taken (e .if1 .left)
+    (rest-stands (now (s .args .held)) block (u .up-to-last .result) (omega (arith, e .if1 .left, s .pre)) (w .put-text .ensures)
+    ∙ ap (λ (n : ℕ). drop n block) (u .up-to-last .ensures .0))
+    (subst (λ (n : ℕ). Stepped (s .args .count) (take n block) (c .before .before .pack-lines .result)) (u .up-to-last .ensures .0) (c .before .before .pack-lines .ensures))
 
 pub take-block-spec : {M : Type 1} → statement M
 take-block-spec =

@@ -1,6 +1,6 @@
 -- Bytes too many, a malformed record, or all is read. Of the system it is assumed that each call returns.
 use borrow.Author.Needs.{needs}
-use Rattle.file_streams.specs.Ends.{UnpackEnd, whole, other-length, a-field, failed}
+use Rattle.file_streams.specs.Ends.{whole, other-length, a-field, failed}
 use Rattle.file_streams.proofs.unpack.end_unpack.Statement.{statement}
 use Rattle.file_streams.proofs.unpack.end_unpack.Tie as tie
 
@@ -20,10 +20,10 @@ returns-2 : tie.Need-returns-2
 returns-2 c = other-length
 
 returns-3 : tie.Need-returns-3
-returns-3 c = whole
+returns-3 c = whole (c .if3 .taken)
 
 returns-4 : tie.Need-returns-4
-returns-4 c = a-field
+returns-4 c = a-field (c .if3 .left)
 
 pub end-unpack-spec : {M : Type 1} → statement M
 end-unpack-spec =

@@ -1,9 +1,8 @@
 -- All records are read first; then their lines are handed over. Of the system it is assumed that each call returns.
 use borrow.Author.Needs.{needs}
-use Prim.Native.Nat.{ℕ, _≤_}
+use Prim.Native.Nat.{_≤_}
 use mathlib.Core.Path.{_≡_, sym, _∙_}
 use mathlib.Core.Bool.{true}
-use mathlib.Core.List.{List}
 use native.Mathlib.Omega.{arith}
 use denote.Ref.{now}
 use lib.ListN.{length}
@@ -12,7 +11,7 @@ use Rattle.list_lines.specs.ListLines.{allRead, requestsIn}
 use Rattle.list_lines.proofs.SurveyLaws.{are-read, not-read}
 use Rattle.site_files.specs.Format.{recordsIn}
 use Rattle.site_files.proofs.RecordSteps.{lines-short}
-use Rattle.file_streams.specs.Ends.{Unblocked, written, malformed, failed}
+use Rattle.file_streams.specs.Ends.{written, malformed, failed}
 use Rattle.file_streams.proofs.StreamLaws.{within, as-long, stands}
 use Rattle.file_streams.proofs.unpack.unpack_block.Statement.{statement}
 use Rattle.file_streams.proofs.unpack.unpack_block.Tie as tie

@@ -7,14 +7,15 @@ use lib.ListN.{length}
 use lib.Seq.{length-take-le}
 use Rattle.records.specs.Records.{recordSize}
 use Rattle.file_streams.specs.Ends.{other-length, failed}
+use Rattle.file_streams.proofs.StreamLaws.{behind-end}
 use Rattle.file_streams.proofs.unpack.unpack_records.Statement.{statement}
 use Rattle.file_streams.proofs.unpack.unpack_records.Tie as tie
 
 abbrev Inv-loop : tie.InvT-loop
-Inv-loop file file-path list list-path count input₀ out₀ left₀ is-read₀ input out left is-read = (length input ≡ length input₀) × (length out ≡ length out₀)
+Inv-loop file file-path list list-path count input₀ out₀ left₀ sound₀ input out left sound = (length input ≡ length input₀) × (length out ≡ length out₀)
 
 abbrev μ-loop : tie.MeasureT-loop
-μ-loop file file-path list list-path count input₀ out₀ left₀ is-read₀ input out left is-read = left
+μ-loop file file-path list list-path count input₀ out₀ left₀ sound₀ input out left sound = left
 
 loop-holds : tie.Need-loop-holds Inv-loop μ-loop
 loop-holds c = (refl, refl)
@@ -109,7 +110,7 @@ same-length-8 : tie.Need-same-length-8 Inv-loop μ-loop
 same-length-8 c = search needs
 
 returns-4 : tie.Need-returns-4 Inv-loop μ-loop
-returns-4 c = c .end-unpack .ensures
+returns-4 c = behind-end (c .end-unpack .ensures)
 
 pub unpack-records-spec : {M : Type 1} → statement M
 unpack-records-spec =
