@@ -1,12 +1,13 @@
--- Blocks one after another are the whole; what is written of a block has room; and how lines are counted. Assumes nothing.
+-- Blocks one after another are the whole; what is written of one has room; what comes of it, how a run ends, and how lines are counted. Assumes nothing.
 use Prim.Native.Nat.{ℕ, _+_, _*_, _-_, _≤_, _<_}
 use mathlib.Core.Path.{_≡_, refl, sym, subst, ap, _∙_}
 use mathlib.Core.Bool.{Bool, true}
-use mathlib.Core.List.{List, [], _++_}
+use mathlib.Core.List.{List, [], _++_, append-assoc}
 use native.Mathlib.Omega.{arith}
-use lib.ListN.{length, take, drop, length-drop}
+use lib.ListN.{length, take, drop, length-drop, take-append-drop}
 use lib.Seq.{length-take-le, take-append-seam}
 use Rattle.cuts.specs.Cuts.{upTo}
+use Rattle.cuts.proofs.CutLaws.{up-le, up-whole}
 use Rattle.lent.specs.Lent.{Written}
 use Rattle.lent.proofs.PutLaws.{length-put, take-put}
 use Rattle.lent.proofs.PartLaws.{rest}
@@ -34,6 +35,16 @@ pub blocks-whole :
     (a b : List ℕ) → upTo lf a ≡ length a
     → recordsOf (requestsIn (linesOf (a ++ b))) ≡ recordsOf (requestsIn (linesOf a)) ++ recordsOf (requestsIn (linesOf b))
 blocks-whole a b e = ap (λ ls. recordsOf (requestsIn ls)) (lines-append [] a b e (λ z. refl)) ∙ records-append (linesOf a) (linesOf b)
+
+-- so a block, cut behind its last LF, gives its records before those of what is left of it and of all that follows
+pub block-taken :
+    (s t : List ℕ)
+    → recordsOf (requestsIn (linesOf (s ++ t)))
+    ≡ recordsOf (requestsIn (linesOf (take (upTo lf s) s))) ++ recordsOf (requestsIn (linesOf (drop (upTo lf s) s ++ t)))
+block-taken s t =
+    ap (λ (l : List ℕ). recordsOf (requestsIn (linesOf l)))
+    (ap (λ (l : List ℕ). l ++ t) (sym (take-append-drop (upTo lf s) s)) ∙ append-assoc (take (upTo lf s) s) (drop (upTo lf s) s) t)
+    ∙ blocks-whole (take (upTo lf s) s) (drop (upTo lf s) s ++ t) (up-whole lf s ∙ sym (length-take-le (upTo lf s) s (up-le lf s)))
 
 -- the lines of some records, and of those that follow them, are those of all
 pub records-whole :

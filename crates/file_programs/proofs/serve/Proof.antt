@@ -1,5 +1,6 @@
 -- Each way ends with its own status. Of the system it is assumed that each call returns.
 use borrow.Author.Needs.{needs}
+use mathlib.Core.Path.{refl}
 use native.Mathlib.Omega.{arith}
 use Rattle.file_programs.proofs.serve.Statement.{statement}
 use Rattle.file_programs.proofs.serve.Tie as tie
@@ -32,7 +33,7 @@ returns-3 : tie.Need-returns-3
 returns-3 c = rw (c .before .before .enum-told2 .given .1) (omega arith)
 
 returns-4 : tie.Need-returns-4
-returns-4 c = rw (c .before .enum-told3 .given .1)
+returns-4 c = rw (c .before .enum-told3 .given .1) refl
 
 pub serve-spec : {M : Type 1} → statement M
 serve-spec =
