@@ -5,7 +5,6 @@ use mathlib.Core.Bool.{Bool, true, false, cond}
 use mathlib.Core.List.{List}
 use native.Mathlib.Omega.{arith}
 use Rattle.text.specs.declared.read.Line.{Line}
-use Rattle.list_lines.specs.declared.Survey.{Survey}
 use Rattle.list_lines.specs.declared.Survey.the-variants as S
 use Rattle.list_lines.specs.ListLines.{allRead, surveyed}
 

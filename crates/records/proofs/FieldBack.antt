@@ -1,7 +1,7 @@
 -- One field: its number and origin, written and read again, and read and written again. Assumes nothing.
 use Prim.Native.Nat.{ℕ, _-_, _≤_, _<_}
 use mathlib.Core.Path.{_≡_, refl, sym, ap}
-use mathlib.Core.Bool.{Bool, true, false, cond}
+use mathlib.Core.Bool.{Bool, true, false, cond, and-eq-true-iff}
 use native.Mathlib.Omega.{arith}
 use borrow.Author.Tests.{lt-ltb, le-ltb, leb-true, eqb-true}
 use lib.Dec.{ltb, leb, eqb}
@@ -12,17 +12,16 @@ use Rattle.request.specs.declared.Field.the-variants.{Measured, Inferred, Estim
 use Rattle.text.specs.declared.figures.Word.the-variants as W
 use Rattle.fields.specs.Held.{held, holds}
 use Rattle.records.specs.Records.{lowest, wordOf, signedIn, numberOf, originOf, givenAs, fieldIn}
-use Rattle.records.proofs.NumberBack.{both}
 
 -- ---- signed numbers
 -- a number that text can hold has six digits
 held-high : (signed : Bool) (n : ℕ) → held signed (pos n) ≡ true → n ≤ 999999
 unfolding held
-held-high signed n h = leb-true n 999999 (both (leZ (cond signed (negsuc 999998) (pos 0)) (pos n)) (leb n 999999) h .1)
+held-high signed n h = leb-true n 999999 (and-eq-true-iff (leZ (cond signed (negsuc 999998) (pos 0)) (pos n)) (leb n 999999) .0 h .1)
 
 held-low : (signed : Bool) (n : ℕ) → held signed (negsuc n) ≡ true → n ≤ 999998
 unfolding held
-held-low true n h = leb-true n 999998 (both (leb n 999998) true h .0)
+held-low true n h = leb-true n 999998 (and-eq-true-iff (leb n 999998) true .0 h .0)
 held-low false n h = let z : _≡_ {A = ℕ} 0 1 = cc in absurd (omega arith)
 
 -- so it fits in four bytes

@@ -1,7 +1,7 @@
 -- A number written in bytes and read again, and bytes read and written again: each gives back what it was made of. Assumes nothing.
 use Prim.Native.Nat.{ℕ, zero, suc, _+_, _*_, _/_, _%_, _^_, _<_}
 use mathlib.Core.Path.{_≡_, refl, sym, _∙_}
-use mathlib.Core.Bool.{Bool, true, false, _&&_, and-assoc}
+use mathlib.Core.Bool.{true, _&&_, and-assoc, and-eq-true-iff}
 use mathlib.Core.List.{List, [], _∷_, _++_, append-nil, append-assoc}
 use native.Mathlib.Nat.{pow-suc}
 use native.Mathlib.Omega.{arith}
@@ -42,11 +42,6 @@ number-back (suc size) n h =
     ∙ omega (arith, number-back size (n / 256) (omega (arith, pow-suc 256 size)))
 
 -- ---- the number of bytes
--- both halves of a test that passed
-pub both : (a b : Bool) → a && b ≡ true → (a ≡ true) × (b ≡ true)
-both true b h = (refl, h)
-both false b h = let z : _≡_ {A = ℕ} 0 1 = cc in absurd (omega arith)
-
 pub bytes-append : (s t : List ℕ) → areBytes (s ++ t) ≡ areBytes s && areBytes t
 unfolding areBytes
 bytes-append [] t = refl
@@ -55,8 +50,8 @@ bytes-append (c ∷ cs) t = rw (bytes-append cs t) (sym (and-assoc (ltb c 256) (
 bytes-last : (s : List ℕ) (c : ℕ) → areBytes (s ++ (c ∷ [])) ≡ true → (areBytes s ≡ true) × (c < 256)
 unfolding areBytes
 bytes-last s c h =
-    let p = both (areBytes s) (ltb c 256 && true) (sym (bytes-append s (c ∷ [])) ∙ h) in
-    (p .0, ltb-true c 256 (both (ltb c 256) true (p .1) .0))
+    let p = and-eq-true-iff (areBytes s) (ltb c 256 && true) .0 (sym (bytes-append s (c ∷ [])) ∙ h) in
+    (p .0, ltb-true c 256 (and-eq-true-iff (ltb c 256) true .0 (p .1) .0))
 
 -- so many bytes make a number below that power of 256
 pub number-lt : (s : List ℕ) → areBytes s ≡ true → numberFrom 0 s < 256 ^ length s

@@ -1,7 +1,7 @@
 -- A request written as a record and read again, and a record read and written again: each gives back what it was. Assumes nothing.
 use Prim.Native.Nat.{ℕ, zero, suc, _+_, _*_, _≤_, _<_}
 use mathlib.Core.Path.{_≡_, refl, sym, ap, _∙_}
-use mathlib.Core.Bool.{true}
+use mathlib.Core.Bool.{true, and-eq-true-iff}
 use mathlib.Core.List.{List, [], _∷_, _++_, append-assoc}
 use mathlib.Core.Option.{Option, none, some}
 use native.Mathlib.Omega.{arith}
@@ -18,7 +18,7 @@ use Rattle.text.specs.Grammar.{signedAt, inFront, requestOf, toLine}
 use Rattle.fields.specs.Held.{fieldsIn, holds, holdAll, writable}
 use Rattle.fields.proofs.FieldsLaws.{request-back, thirteen, fields-back}
 use Rattle.records.specs.Records.{areBytes, highFirst, numberFrom, numberOf, originOf, fields, recordSize, numbersOf, originsOf, recordOf, fieldAt, fieldsFrom, recordIn}
-use Rattle.records.proofs.NumberBack.{number-back, bytes-back, length-high, number-lt, both, bytes-append}
+use Rattle.records.proofs.NumberBack.{number-back, bytes-back, length-high, number-lt, bytes-append}
 use Rattle.records.proofs.FieldBack.{Read, field-back, number-small, field-read}
 
 -- ---- how long
@@ -85,7 +85,7 @@ unfolding fieldsFrom holdAll
 fields-from fs all zero k e h = ap some (sym (drop-of-length-le fs {i = k} (omega arith)))
 fields-from fs all (suc n) k e h =
     let cut : drop k fs ≡ getD fs k Blank ∷ drop (k + 1) fs = rw (add-one k) (drop-cons fs k Blank (omega arith)) in
-    let g = both (holds (signedAt k) (getD fs k Blank)) (holdAll (k + 1) (drop (k + 1) fs)) (rw cut at h) in
+    let g = and-eq-true-iff (holds (signedAt k) (getD fs k Blank)) (holdAll (k + 1) (drop (k + 1) fs)) .0 (rw cut at h) in
     rw (cut, one-back fs all k (omega arith) (g .0), fields-from fs all n (k + 1) (omega arith) (g .1))
 
 pub record-back : (r : Request) → writable r ≡ true → recordIn (recordOf r) ≡ L.Is r
@@ -98,7 +98,7 @@ bytes-part : (i j : ℕ) (s : List ℕ) → areBytes s ≡ true → areBytes (ta
 bytes-part i j s h = halves i (drop j s) (halves j s h .1) .0
   where
     halves : (i : ℕ) (s : List ℕ) → areBytes s ≡ true → (areBytes (take i s) ≡ true) × (areBytes (drop i s) ≡ true)
-    halves i s h = both (areBytes (take i s)) (areBytes (drop i s)) (sym (bytes-append (take i s) (drop i s)) ∙ ap areBytes (take-append-drop i s) ∙ h)
+    halves i s h = and-eq-true-iff (areBytes (take i s)) (areBytes (drop i s)) .0 (sym (bytes-append (take i s) (drop i s)) ∙ ap areBytes (take-append-drop i s) ∙ h)
 
 -- 65 bytes
 abbrev Bytes : List ℕ → Type 0

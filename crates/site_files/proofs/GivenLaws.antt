@@ -1,13 +1,12 @@
 -- What writer and reader make, test by test, and what they promise of it. Assumes nothing.
 use Prim.Native.Nat.{ℕ, _+_, _*_, _≤_, _<_}
-use mathlib.Core.Path.{_≡_, refl, sym, ap, _∙_}
+use mathlib.Core.Path.{_≡_, refl}
 use mathlib.Core.Bool.{true, false}
 use mathlib.Core.List.{List}
 use native.Mathlib.Omega.{arith}
 use borrow.Author.Tests.{lt-ltb, le-ltb, eq-eqb, ne-eqb}
-use lib.ListN.{length, drop}
+use lib.ListN.{length}
 use Rattle.refusals.specs.Order as No
-use Rattle.lent.specs.declared.Wrote.{Wrote}
 use Rattle.lent.specs.declared.Wrote.the-variants as W
 use Rattle.lent.specs.Lent.{Written}
 use Rattle.lent.proofs.WroteLaws.{refuses, writes}
@@ -15,7 +14,7 @@ use Rattle.request_lines.specs.RequestText.{listText}
 use Rattle.records.specs.Records.{recordSize}
 use Rattle.list_lines.specs.ListLines.{linesOf, allRead, requestsIn}
 use Rattle.site_files.specs.declared.files.File.the-variants as F
-use Rattle.site_files.specs.Format.{mostRecords, headSize, fileOf, isMarked, countIn, isMeasured, recordsIn, linesIn, Made, bytes, refused, packOf, unpackOf}
+use Rattle.site_files.specs.Format.{mostRecords, headSize, fileOf, isMarked, countIn, isMeasured, linesIn, Made, bytes, refused, packOf, unpackOf}
 use Rattle.site_files.specs.Given.{answerTo, becomes, Given, found}
 
 -- ---- the writer

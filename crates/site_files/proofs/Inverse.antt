@@ -3,17 +3,17 @@
 use Prim.Native.Nat.{ℕ, _+_, _*_, _≤_}
 use mathlib.Core.Path.{_≡_, refl, sym, ap, _∙_}
 use mathlib.Core.Bool.{Bool, true, false, cond}
-use mathlib.Core.List.{List, _++_}
+use mathlib.Core.List.{List}
 use native.Mathlib.Omega.{arith}
 use borrow.Author.Tests.{le-ltb, ltb-false, eq-eqb, eqb-true}
-use lib.Dec.{ltb, eqb}
+use lib.Dec.{ltb}
 use lib.ListN.{length, drop, length-append, length-drop}
 use Rattle.refusals.specs.Order as No
 use Rattle.request.specs.declared.Request.{Request}
 use Rattle.request_lines.specs.RequestText.{listText}
 use Rattle.records.specs.Records.{areBytes, recordSize}
-use Rattle.list_lines.specs.ListLines.{linesFrom, linesOf, allRead, requestsIn}
-use Rattle.site_files.specs.Format.{mostRecords, headSize, headOf, recordsOf, fileOf, isMarked, countIn, isMeasured, recordsIn, linesIn, Made, bytes, refused, packOf, unpackOf}
+use Rattle.list_lines.specs.ListLines.{linesOf, allRead, requestsIn}
+use Rattle.site_files.specs.Format.{mostRecords, headSize, headOf, recordsOf, fileOf, isMarked, countIn, isMeasured, linesIn, bytes, refused, packOf, unpackOf}
 use Rattle.list_lines.proofs.ListBack.{allWritable, read, all-read, requests-read, as-many, lines-of-text, text-of-lines}
 use Rattle.site_files.proofs.RecordsBack.{length-records, records-read, length-read, records-writable, records-bytes}
 use Rattle.site_files.proofs.HeadBack.{head-marked, head-count, head-past, length-head, head-back, past-bytes, count-le}

@@ -1,18 +1,15 @@
 -- What is written for lines one after another is written for each. Assumes nothing.
-use Prim.Native.Nat.{ℕ, zero, suc, _+_, _*_}
+use Prim.Native.Nat.{ℕ, _+_}
 use mathlib.Core.Path.{_≡_, refl, sym, ap, _∙_}
 use mathlib.Core.List.{List, [], _∷_, _++_, append-assoc}
-use native.Mathlib.Omega.{arith}
-use lib.ListN.{drop}
-use lib.Seq.{drop-drop}
 use Rattle.request.specs.declared.Request.{Request}
 use Rattle.numerals.specs.Render.{lf}
 use Rattle.text.specs.declared.read.Line.{Line}
 use Rattle.text.specs.declared.read.Line.the-variants as L
 use Rattle.request_lines.specs.RequestText.{lineText, listText}
-use Rattle.records.specs.Records.{recordSize, recordOf, recordIn}
+use Rattle.records.specs.Records.{recordOf}
 use Rattle.list_lines.specs.ListLines.{requestsIn}
-use Rattle.site_files.specs.Format.{recordsOf, recordsIn}
+use Rattle.site_files.specs.Format.{recordsOf}
 
 requests-append : (ls ms : List Line) → requestsIn (ls ++ ms) ≡ requestsIn ls ++ requestsIn ms
 unfolding requestsIn

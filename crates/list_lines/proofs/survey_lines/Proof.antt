@@ -10,7 +10,7 @@ use denote.Ref.{now}
 use lib.ListN.{length, drop}
 use Rattle.text.specs.declared.read.Line.the-variants as L
 use Rattle.list_lines.specs.declared.Survey.the-variants as S
-use Rattle.list_lines.specs.ListLines.{linesFrom, linesOf, allRead, surveyed}
+use Rattle.list_lines.specs.ListLines.{linesOf, allRead, surveyed}
 use Rattle.list_lines.proofs.LineLaws.{unfinished, line-here, no-line}
 use Rattle.list_lines.proofs.survey_lines.Statement.{statement}
 use Rattle.list_lines.proofs.survey_lines.Tie as tie

@@ -14,7 +14,7 @@ use Rattle.records.specs.Records.{recordSize}
 use Rattle.list_lines.specs.ListLines.{linesOf, allRead, requestsIn}
 use Rattle.list_lines.proofs.SurveyLaws.{are-read, not-read}
 use Rattle.list_lines.proofs.ListBack.{as-many}
-use Rattle.site_files.specs.Format.{mostRecords, headSize, headOf, recordsOf, fileOf, bytes, packOf}
+use Rattle.site_files.specs.Format.{headSize, headOf, recordsOf, fileOf, bytes, packOf}
 use Rattle.site_files.proofs.RecordsBack.{length-records}
 use Rattle.site_files.proofs.HeadBack.{length-head}
 use Rattle.site_files.proofs.Inverse.{length-file}

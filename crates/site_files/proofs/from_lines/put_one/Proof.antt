@@ -1,9 +1,8 @@
 -- The record of the line's request, and nothing else. Assumes nothing.
 use borrow.Author.Needs.{needs}
-use mathlib.Core.Path.{_≡_, refl, ap, _∙_}
+use mathlib.Core.Path.{_≡_}
 use mathlib.Core.List.{[], _∷_, append-nil}
 use native.Mathlib.Omega.{arith}
-use denote.Ref.{now}
 use lib.ListN.{length}
 use Rattle.request.specs.declared.Request.{Request}
 use Rattle.text.specs.declared.read.Line.the-variants as L
