@@ -18,7 +18,6 @@ PAIRS = [
     ("complete", "a pipe", "mixed"),
     ("predict", "/dev/null", "mixed"),
     ("predict", "a pipe", "mixed"),
-    ("predict --geometric-mean", "/dev/null", "mixed"),
     ("predict", "/dev/null", "soft"),
     ("predict", "/dev/null", "stiff"),
     ("predict --period 370", "/dev/null", "mixed"),
@@ -54,7 +53,7 @@ def compared(what, kind, proved_once, c_once):
         proved.append(proved_once())
         c.append(c_once())
     ratio = statistics.median(p / q for p, q in zip(proved, c))
-    print(f"{what:38}{kind:8}{statistics.median(proved):11.3f} s {statistics.median(c):11.3f} s {ratio:7.2f}", flush=True)
+    print(f"{what:34}{kind:8}{statistics.median(proved):11.3f} s {statistics.median(c):11.3f} s {ratio:7.2f}", flush=True)
 
 
 second, folder = sys.argv[1:]

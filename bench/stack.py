@@ -30,12 +30,11 @@ LEVELS = {
 FEWER = {
     # The completing sheet has no row worked out, and none of its figures has more than six digits.
     "xanhupive_complete_line": {**dict.fromkeys(PARTS["model"].split(), 0), "numerals::put_number": 6},
-    # The predicting sheet has no period worked out, with either sigma.
+    # The predicting sheet has no period worked out.
     "xanhupive_predict_line": {"one_period": 0, "periods": 0},
-    "xanhupive_predict_line_geometric_mean": {"one_period": 0, "periods": 0},
-    # One of those three sheets, whatever number the caller gives.
+    # One of those two sheets, whatever number the caller gives.
     "xanhupive_take_part": {"one_period": 0, "periods": 0},
-    # One of those three sheets likewise.
+    # One of those two sheets likewise.
     "xanhupive_record_answer": {"one_period": 0, "periods": 0},
     # The one number that it writes is 14.
     "xanhupive_close": {"numerals::put_number": 2},
@@ -218,7 +217,7 @@ def main():
     for line in told("nm", "-g", "--defined-only", sys.argv[1]):
         _, kind, name = line.split() if line.count(" ") == 2 else (None, None, None)
         if kind == "T":
-            print(f"{name:38}{bound(functions, name, {**LEVELS, **FEWER.get(name, {})}):8}")
+            print(f"{name:24}{bound(functions, name, {**LEVELS, **FEWER.get(name, {})}):8}")
     return 0
 
 

@@ -19,22 +19,6 @@ static void request(uint8_t *end, const char *text)
 }
 
 typedef size_t answer_function(const uint8_t *, size_t, uint8_t *, size_t);
-typedef uint32_t measure_function(const uint8_t *, size_t, uint64_t, double *, double *);
-
-#define COUNT(array) (sizeof(array) / sizeof *(array))
-
-/* The sigmas that are shown, the arbitrary component's and the geometric mean's: by which functions, and where a row of the
- * spectrum has it. */
-static const struct shown {
-    answer_function *predict_line;
-    measure_function *measure;
-    int column;
-} SIGMAS[] = {
-    {xanhupive_predict_line, xanhupive_measure, 5},
-    {xanhupive_predict_line_geometric_mean, xanhupive_measure_geometric_mean, 4},
-};
-
-#define SIGMAS_END (SIGMAS + COUNT(SIGMAS))
 
 /* Every length up to the answer's: refused, no byte changed. Its own, and more: written, the bytes
  * around it as they were. */
@@ -57,56 +41,22 @@ static void every_length(answer_function *answer, const char *text, size_t bytes
     }
 }
 
-/* The lines of a spectrum's rows with one sigma; gives how many bytes they have. */
-static size_t lines_of(const double *rows, int column, char *text)
-{
-    size_t bytes = 0;
-    for (int k = 0; k < XANHUPIVE_MEASURES; k++) {
-        const double *row = rows + XANHUPIVE_COLUMNS * k;
-        size_t room = XANHUPIVE_LONGEST_ANSWER + 1 - bytes;
-        bytes += (size_t)snprintf(text + bytes, room, "%d %.0f %.0f %.0f\n", k, row[0], row[1], row[column]);
-    }
-    return bytes;
-}
-
-/* The line predicted with either sigma is the spectrum's rows with that one, in every length. */
-static void every_prediction(uint8_t *end)
-{
-    char text[XANHUPIVE_LONGEST_ANSWER + 1];
-    double rows[XANHUPIVE_NUMBERS] = {0};
-    expect(xanhupive_spectrum(line, length, rows, XANHUPIVE_NUMBERS) == 0, "a spectrum beside its lines");
-    for (const struct shown *shown = SIGMAS; shown < SIGMAS_END; shown++) {
-        size_t bytes = lines_of(rows, shown->column, text);
-        every_length(shown->predict_line, text, bytes, end);
-    }
-}
-
-/* A line that is refused is predicted alike with either sigma. */
-static void every_refusal(const char *text, uint8_t *end)
-{
-    for (const struct shown *shown = SIGMAS; shown < SIGMAS_END; shown++)
-        every_length(shown->predict_line, text, strlen(text), end);
-}
-
 static void null_with_length_0(uint8_t *end)
 {
     uint8_t out[8] = {0};
     expect(xanhupive_complete_line(NULL, 0, out, sizeof out) == 6 && memcmp(out, "no 14\n", 7) == 0, "the empty line completed");
-    for (const struct shown *shown = SIGMAS; shown < SIGMAS_END; shown++) {
-        double median = -1.0;
-        double sigma = -2.0;
-        memset(out, 0, sizeof out);
-        expect(shown->predict_line(NULL, 0, out, sizeof out) == 6 && memcmp(out, "no 14\n", 7) == 0, "the empty line predicted");
-        expect(shown->measure(NULL, 0, 21, &median, &sigma) == XANHUPIVE_MALFORMED, "a measure of the empty line");
-        expect(median == -1.0 && sigma == -2.0, "a refused measure changes nothing");
-    }
+    memset(out, 0, sizeof out);
+    expect(xanhupive_predict_line(NULL, 0, out, sizeof out) == 6 && memcmp(out, "no 14\n", 7) == 0, "the empty line predicted");
+    double median = -1.0;
+    double total = -2.0;
+    expect(xanhupive_measure(NULL, 0, 21, &median, &total) == XANHUPIVE_MALFORMED, "a measure of the empty line");
+    expect(median == -1.0 && total == -2.0, "a refused measure changes nothing");
     expect(xanhupive_spectrum(NULL, 0, NULL, 0) == XANHUPIVE_MALFORMED, "14 comes before 16");
     expect(xanhupive_period(NULL, 0, 370, NULL, 0) == XANHUPIVE_MALFORMED, "a period of the empty line");
 
     request(end, "650 0 760 - 10000 - 3000 4000 30 - - - 2000");
     expect(xanhupive_complete_line(line, length, NULL, 0) == 0, "no room to complete");
-    for (const struct shown *shown = SIGMAS; shown < SIGMAS_END; shown++)
-        expect(shown->predict_line(line, length, NULL, 0) == 0, "no room to predict");
+    expect(xanhupive_predict_line(line, length, NULL, 0) == 0, "no room to predict");
     expect(xanhupive_spectrum(line, length, NULL, 0) == XANHUPIVE_TOO_LONG, "no room for a spectrum");
     expect(xanhupive_period(line, length, 370, NULL, 0) == XANHUPIVE_TOO_LONG, "no room for a row");
     expect(xanhupive_period(line, length, 9, NULL, 0) == XANHUPIVE_NO_PERIOD, "17 comes before 16");
@@ -115,42 +65,32 @@ static void null_with_length_0(uint8_t *end)
     expect(xanhupive_period(line, length, 9, NULL, 0) == 2, "2 comes before 17 and 16");
 }
 
-static void one_measure(measure_function *measure, uint8_t *end)
+static void one_measure(uint8_t *end)
 {
     const uint64_t nan_bits = UINT64_C(0x7ff800000000abcd);
     double median;
-    double sigma;
+    double total;
     uint64_t bits;
     memcpy(&median, &nan_bits, sizeof median);
-    sigma = -0.0;
+    total = -0.0;
     request(end, "650 0 760 - 10000 - 3000 4000 30 - - - 2000");
-    expect(measure(line, length, 24, &median, &sigma) == XANHUPIVE_NO_MEASURE, "measure 24");
-    expect(measure(line, length, UINT64_MAX, &median, &sigma) == XANHUPIVE_NO_MEASURE, "the largest measure");
+    expect(xanhupive_measure(line, length, 24, &median, &total) == XANHUPIVE_NO_MEASURE, "measure 24");
+    expect(xanhupive_measure(line, length, UINT64_MAX, &median, &total) == XANHUPIVE_NO_MEASURE, "the largest measure");
     request(end, "851 0 760 - 10000 - 3000 4000 30 - - - 2000");
-    expect(measure(line, length, 24, &median, &sigma) == 2, "2 comes before 15");
+    expect(xanhupive_measure(line, length, 24, &median, &total) == 2, "2 comes before 15");
     request(end, "851 0 760 - 10000 - 3000 4000 30 - - - 2000\n");
-    expect(measure(line, length, 24, &median, &sigma) == XANHUPIVE_MALFORMED, "a line with its LF is malformed");
+    expect(xanhupive_measure(line, length, 24, &median, &total) == XANHUPIVE_MALFORMED, "a line with its LF is malformed");
     memcpy(&bits, &median, sizeof bits);
-    expect(bits == nan_bits && sigma == 0.0 && 1.0 / sigma < 0.0, "a NaN and -0.0 are as they were");
-}
-
-/* A measure alone, with either sigma, is that of the spectrum's row. */
-static void same_measure(uint64_t measure, const double *row)
-{
-    for (const struct shown *shown = SIGMAS; shown < SIGMAS_END; shown++) {
-        double median = -1.0;
-        double sigma = -1.0;
-        expect(shown->measure(line, length, measure, &median, &sigma) == 0, "each measure");
-        expect(median == row[1] && sigma == row[shown->column], "a measure alone is that of the spectrum");
-    }
+    expect(bits == nan_bits && total == 0.0 && 1.0 / total < 0.0, "a NaN and -0.0 are as they were");
 }
 
 static void each_measure(const double *rows)
 {
     for (uint64_t k = 0; k < XANHUPIVE_MEASURES; k++) {
-        const double *row = rows + XANHUPIVE_COLUMNS * k;
-        expect(row[5] > row[4], "the arbitrary component's sigma is larger than the geometric mean's");
-        same_measure(k, row);
+        double median = -1.0;
+        double total = -1.0;
+        expect(xanhupive_measure(line, length, k, &median, &total) == 0, "each measure");
+        expect(median == rows[6 * k + 1] && total == rows[6 * k + 4], "a measure alone is that of the spectrum");
     }
 }
 
@@ -212,9 +152,11 @@ static void same_numbers(const double *rows, const double *row)
 {
     double others[XANHUPIVE_NUMBERS] = {0};
     double other[XANHUPIVE_COLUMNS] = {0};
+    double median = 0, total = 0;
     expect(xanhupive_spectrum(line, length, others, XANHUPIVE_NUMBERS) == 0, "an inferred figure is read");
     expect(memcmp(rows, others, sizeof others) == 0, "measured or inferred, the spectrum is the same");
-    same_measure(21, rows + XANHUPIVE_COLUMNS * 21);
+    expect(xanhupive_measure(line, length, 21, &median, &total) == 0, "a measure of an inferred figure");
+    expect(median == rows[6 * 21 + 1] && total == rows[6 * 21 + 4], "measured or inferred, a measure is the same");
     expect(xanhupive_period(line, length, 370, other, XANHUPIVE_COLUMNS) == 0, "a period of an inferred figure");
     expect(memcmp(row, other, sizeof other) == 0, "measured or inferred, a period is the same");
 }
@@ -291,16 +233,14 @@ static const struct {
 /* The longest RRUP that RJB 4000, ZTOR 3000 and W 10000 allow, and a metre more. */
 static void longest_distance(uint8_t *end, uint8_t *out_end)
 {
+    double median = -1.0;
+    double total = -1.0;
     request(end, "650 0 760 - 10000 - 3000 4000 30 13602 - - 2000");
     every_length(xanhupive_complete_line, "ok 90 10000 3000 13602 2000 emmmm\n", 34, out_end);
     request(end, "650 0 760 - 10000 - 3000 4000 30 13603 - - 2000");
     every_length(xanhupive_complete_line, "no 18\n", 6, out_end);
-    every_refusal("no 18\n", out_end);
-    for (const struct shown *shown = SIGMAS; shown < SIGMAS_END; shown++) {
-        double median = -1.0;
-        double sigma = -1.0;
-        expect(shown->measure(line, length, 24, &median, &sigma) == 18 && median == -1.0 && sigma == -1.0, "18 comes before 15");
-    }
+    every_length(xanhupive_predict_line, "no 18\n", 6, out_end);
+    expect(xanhupive_measure(line, length, 24, &median, &total) == 18 && median == -1.0 && total == -1.0, "18 comes before 15");
     expect(xanhupive_spectrum(line, length, NULL, 0) == 18, "18 comes before 16");
     request(end, "650 0 760 - 10000 - 3000 4000 30 13603 - - 10001");
     expect(xanhupive_spectrum(line, length, NULL, 0) == 18, "18 comes before 13");
@@ -308,6 +248,8 @@ static void longest_distance(uint8_t *end, uint8_t *out_end)
 
 /* Periods out of range; the lower half of one of them is in it. */
 static const uint64_t NO_PERIODS[] = {0, 9, 10001, (UINT64_C(1) << 32) + 370, UINT64_MAX};
+
+#define COUNT(array) (sizeof(array) / sizeof *(array))
 
 /* A period refused in every length of a row, the numbers around it too as they were. */
 static void period_refused(uint64_t period, uint32_t refusal, double *last, const char *what)
@@ -435,14 +377,13 @@ int main(void)
     null_with_length_0(line_end);
     request(line_end, "650 0 760 - 10000 - 3000 4000 30 - - - 2000");
     every_length(xanhupive_complete_line, "ok 90 10000 3000 5000 2000 emmem\n", 33, out_end);
-    every_prediction(out_end);
-    request(line_end, "800 90 150 45 20000 - 1000 0 90 1000 - - 10000");
-    every_prediction(out_end);
+    uint8_t prediction[XANHUPIVE_LONGEST_ANSWER] = {0};
+    size_t bytes = xanhupive_predict_line(line, length, prediction, sizeof prediction);
+    every_length(xanhupive_predict_line, (const char *)prediction, bytes, out_end);
     request(line_end, "no request");
     every_length(xanhupive_complete_line, "no 14\n", 6, out_end);
-    every_refusal("no 14\n", out_end);
-    for (const struct shown *shown = SIGMAS; shown < SIGMAS_END; shown++)
-        one_measure(shown->measure, line_end);
+    every_length(xanhupive_predict_line, "no 14\n", 6, out_end);
+    one_measure(line_end);
     spectrum(line_end, out_end);
     soft_site(line_end);
     origins(line_end);

@@ -1,6 +1,5 @@
-/* Document 01's first line completed, predicted and asked for its peak ground acceleration, each with the arbitrary
- * component's sigma and with the geometric mean's, and for the shaking at 0.37 s, between two tabulated periods; then
- * lent a buffer that is too short. The answers do not say which sigma they have: whoever prints one should. */
+/* Document 01's first line completed, predicted and asked for its peak ground acceleration, and for the
+ * shaking at 0.37 s, between two tabulated periods; then lent a buffer that is too short. */
 #include <stdint.h>
 #include <stdio.h>
 #include <string.h>
@@ -26,32 +25,21 @@ int main(void)
     size_t written = xanhupive_complete_line(line, length, out, sizeof out);
     fwrite(out, 1, written, stdout);
 
-    puts("with the arbitrary component's sigma:");
     written = xanhupive_predict_line(line, length, out, sizeof out);
-    fwrite(out, 1, written, stdout);
-
-    puts("with the geometric mean's sigma:");
-    written = xanhupive_predict_line_geometric_mean(line, length, out, sizeof out);
     fwrite(out, 1, written, stdout);
 
     const uint64_t pga = 21;
     double median = 0.0;
-    double sigma = 0.0;
-    if (refused(xanhupive_measure(line, length, pga, &median, &sigma)))
-        return 1;
-    printf("PGA %.10f g, the arbitrary component's sigma %.6f\n", median / 1e10, sigma / 1e6);
-
     double total = 0.0;
-    if (refused(xanhupive_measure_geometric_mean(line, length, pga, &median, &total)))
+    if (refused(xanhupive_measure(line, length, pga, &median, &total)))
         return 1;
-    printf("PGA %.10f g, the geometric mean's sigma %.6f\n", median / 1e10, total / 1e6);
+    printf("PGA %.10f g, total sigma %.6f\n", median / 1e10, total / 1e6);
 
     const uint64_t thousandths = 370;
     double row[XANHUPIVE_COLUMNS] = {0};
     if (refused(xanhupive_period(line, length, thousandths, row, XANHUPIVE_COLUMNS)))
         return 1;
-    printf("0.370 s %.10f g, the arbitrary component's sigma %.6f, the geometric mean's %.6f\n", row[1] / 1e10,
-           row[5] / 1e6, row[4] / 1e6);
+    printf("0.370 s %.10f g, total sigma %.6f\n", row[1] / 1e10, row[4] / 1e6);
 
     uint8_t few[4] = {'l', 'e', 'n', 't'};
     written = xanhupive_complete_line(line, length, few, sizeof few);

@@ -12,7 +12,6 @@
 #include <stdlib.h>
 #include <string.h>
 
-#include "sheets.h"
 #include "xanhupive.h"
 
 /* What stands in lent bytes and in a number before a call, and how many such bytes before them. */
@@ -285,30 +284,31 @@ static uint32_t answered(const uint8_t *record, size_t length, uint64_t sheet, s
     return number;
 }
 
-/* A record's answer is its line's, on every sheet: with every room that is too small refused, in its own room and in more
+/* A record's answer is its line's, on both sheets: with every room that is too small refused, in its own room and in more
  * the same bytes. */
 static void answers_alike(const uint8_t *record, const char *line)
 {
-    const uint64_t no_sheets[] = {3, 4, 256, (UINT64_C(1) << 32) + 2, UINT64_MAX};
+    uint8_t whole[2][XANHUPIVE_LONGEST_ANSWER];
+    size_t length[2];
     uint64_t wrote;
-    for (uint64_t sheet = 0; sheet < SHEETS; sheet++) {
-        uint8_t whole[XANHUPIVE_LONGEST_ANSWER] = {0};
-        size_t length = ANSWERS[sheet]((const uint8_t *)line, strlen(line), whole, sizeof whole);
-        for (size_t room = 0; room < length; room++) {
+    length[0] = xanhupive_complete_line((const uint8_t *)line, strlen(line), whole[0], sizeof whole[0]);
+    length[1] = xanhupive_predict_line((const uint8_t *)line, strlen(line), whole[1], sizeof whole[1]);
+    for (uint64_t sheet = XANHUPIVE_COMPLETION; sheet <= XANHUPIVE_PREDICTION; sheet++) {
+        for (size_t room = 0; room < length[sheet]; room++) {
             expect(answered(record, RECORD, sheet, room, &wrote) == XANHUPIVE_TOO_LONG, "too little room for a record's answer");
         }
         for (size_t more = 0; more < 3; more++) {
-            size_t room = length + more;
-            expect(answered(record, RECORD, sheet, room, &wrote) == 0 && wrote == length && memcmp(to_end - room, whole, length) == 0,
+            size_t room = length[sheet] + more;
+            expect(answered(record, RECORD, sheet, room, &wrote) == 0 && wrote == length[sheet] &&
+                       memcmp(to_end - room, whole[sheet], length[sheet]) == 0,
                    "a record's answer is its line's");
         }
     }
     for (size_t few = 0; few < RECORD; few++) {
         expect(answered(record, few, XANHUPIVE_COMPLETION, 100, &wrote) == XANHUPIVE_MISUSE, "too few bytes of a record");
     }
-    for (size_t k = 0; k < COUNT(no_sheets); k++) {
-        expect(answered(record, RECORD, no_sheets[k], 100, &wrote) == XANHUPIVE_MISUSE, "what is no sheet");
-    }
+    expect(answered(record, RECORD, XANHUPIVE_PREDICTION + 1, 100, &wrote) == XANHUPIVE_MISUSE, "what is no sheet");
+    expect(answered(record, RECORD, UINT64_MAX, 100, &wrote) == XANHUPIVE_MISUSE, "what is no sheet");
 }
 
 /* A record's spectrum is its line's; so is the refusal, and with a number too few nothing is written. */
@@ -331,9 +331,7 @@ static void spectra_alike(const uint8_t *record, const char *line)
     expect(xanhupive_record_spectrum(other, RECORD, of_record, XANHUPIVE_NUMBERS) == NO_FIELD, "an estimated figure");
     expect(memcmp(of_record, marked, sizeof marked) == 0, "numbers beside a refusal");
     uint64_t wrote;
-    for (uint64_t sheet = 0; sheet < SHEETS; sheet++) {
-        expect(answered(other, RECORD, sheet, 1000, &wrote) == NO_FIELD, "an estimated figure's answer");
-    }
+    expect(answered(other, RECORD, XANHUPIVE_PREDICTION, 1000, &wrote) == NO_FIELD, "an estimated figure's answer");
 }
 
 /* A file looked through and answered record by record, with all that follows lent too. */

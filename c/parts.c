@@ -12,7 +12,6 @@
 #include <string.h>
 
 #include "list.h"
-#include "sheets.h"
 #include "xanhupive.h"
 
 /* What stands in lent bytes and numbers before a call, and how many such bytes before them. */
@@ -180,7 +179,8 @@ static size_t answer_to(uint64_t sheet, const uint8_t *line, size_t length, uint
         memcpy(out, malformed, malformed_length);
         return malformed_length;
     }
-    return ANSWERS[sheet](line, length, out, XANHUPIVE_LONGEST_ANSWER);
+    return sheet == XANHUPIVE_PREDICTION ? xanhupive_predict_line(line, length, out, XANHUPIVE_LONGEST_ANSWER)
+                                         : xanhupive_complete_line(line, length, out, XANHUPIVE_LONGEST_ANSWER);
 }
 
 /* How long the first answer is that an offer leads to from some place on, 0 where it leads to none. */
@@ -229,8 +229,8 @@ static struct told offered(const struct offer *offer, const size_t *rooms, size_
 /* Offers with two drawn rooms and then with one for the longest answer, and writes what was answered. */
 static size_t answered(const struct offer *offer)
 {
-    const size_t longest = offer->sheet == XANHUPIVE_COMPLETION ? 40 : XANHUPIVE_LONGEST_ANSWER;
-    const size_t most = offer->sheet == XANHUPIVE_COMPLETION ? 40 : 1000;
+    const size_t longest = offer->sheet == XANHUPIVE_PREDICTION ? XANHUPIVE_LONGEST_ANSWER : 40;
+    const size_t most = offer->sheet == XANHUPIVE_PREDICTION ? 1000 : 40;
     const size_t rooms[] = {drawn(5, most), drawn(5, most), longest};
     struct told told = offered(offer, rooms, 3);
     if (told.fault != NULL) {
@@ -342,17 +342,17 @@ static void every_cut(const struct offer *list, size_t lent)
     }
 }
 
-/* A list and what the completing sheet says to it, in every cut; its last line with and without the LF, by every
- * sheet and in every room that tells a difference. */
+/* A list and what the completing sheet says to it, in every cut; its last line with and without the LF, by both
+ * sheets and in every room that tells a difference. */
 static void known_list(const char *list, size_t length, const char *answers, size_t answers_length)
 {
     struct offer offer = {XANHUPIVE_COMPLETION, (const uint8_t *)list, 0, length, 0};
     want_whole(&offer);
     expect(wanted_length == answers_length, "the answers known have their length");
     expect(memcmp(wanted, answers, answers_length) == 0, "the answers known have their bytes");
-    for (uint64_t k = 0; k < 2 * SHEETS; k++) {
-        offer.sheet = k % SHEETS;
-        offer.to = k < SHEETS ? length : length - 1;
+    for (int k = 0; k < 4; k++) {
+        offer.sheet = k % 2 == 0 ? XANHUPIVE_COMPLETION : XANHUPIVE_PREDICTION;
+        offer.to = k < 2 ? length : length - 1;
         for (size_t lent = 0; lent <= 40; lent++) {
             every_cut(&offer, lent);
         }
@@ -396,7 +396,7 @@ static void random_lists(void)
     for (int round = 0; round < 30; round++) {
         size_t length = drawn(1, sizeof list);
         some_list(list, length);
-        for (uint64_t sheet = 0; sheet < SHEETS; sheet++) {
+        for (uint64_t sheet = 0; sheet < 2; sheet++) {
             for (size_t k = 0; k < sizeof rooms / sizeof *rooms; k++) {
                 struct offer offer = {sheet, list, 0, length, 0};
                 every_cut(&offer, rooms[k]);
@@ -449,8 +449,8 @@ static void any_readers(void)
     static uint8_t list[60];
     for (size_t round = 0; round < 100000; round++) {
         size_t length = drawn(0, sizeof list);
-        struct offer part = {round / 256 % SHEETS, list, 0, length, 0};
-        struct offer end = {round / 256 % SHEETS, list, length, length, 1};
+        struct offer part = {round / 256 % 2, list, 0, length, 0};
+        struct offer end = {round / 256 % 2, list, length, length, 1};
         for (size_t k = 0; k < length; k++) {
             list[k] = some_byte(10);
         }
@@ -490,21 +490,20 @@ static void misused(uint8_t *lent, size_t length, uint64_t sheet, int closes)
 static void misuse(void)
 {
     const uint64_t high = UINT64_C(1) << 32;
-    const uint64_t no_sheets[] = {3, 4, 255, 256, 257, 258, 65536, high, high + 1, high + 2, high << 31, UINT64_MAX};
+    const uint64_t no_sheets[] = {2, 3, 255, 256, 257, 65536, high, high + 1, high << 31, UINT64_MAX};
     for (size_t length = 0; length < XANHUPIVE_READER; length++) {
         memset(reader_end - length - AROUND, MARK, AROUND + length);
         uint32_t answer = xanhupive_reader_begin(reader_end - length, length);
         expect(answer == XANHUPIVE_MISUSE, "a reader too short to begin");
         expect(all_are(reader_end - length - AROUND, reader_end, MARK), "it is as it was");
-        for (uint64_t sheet = 0; sheet <= SHEETS; sheet++) {
+        for (uint64_t sheet = 0; sheet < 3; sheet++) {
             misused(reader_end - length, length, sheet, 0);
         }
         misused(reader_end - length, length, 0, 1);
     }
     expect(xanhupive_reader_begin(NULL, 0) == XANHUPIVE_MISUSE, "no reader to begin");
-    for (uint64_t sheet = 0; sheet < SHEETS; sheet++) {
-        misused(NULL, 0, sheet, 0);
-    }
+    misused(NULL, 0, XANHUPIVE_COMPLETION, 0);
+    misused(NULL, 0, XANHUPIVE_PREDICTION, 0);
     misused(NULL, 0, 0, 1);
     for (size_t k = 0; k < sizeof no_sheets / sizeof *no_sheets; k++) {
         misused(reader, XANHUPIVE_READER, no_sheets[k], 0);
@@ -515,7 +514,7 @@ static void null_with_length_0(void)
 {
     struct told told;
     xanhupive_reader_begin(reader, XANHUPIVE_READER);
-    for (uint64_t sheet = 0; sheet < SHEETS; sheet++) {
+    for (uint64_t sheet = 0; sheet < 2; sheet++) {
         take(&told, sheet, NULL, 0, NULL, 0);
         expect(told.answer == 0 && told.took == 0 && told.wrote == 0, "nothing taken, no room");
         expect(reader_is_new(), "the reader is a new one still");
@@ -535,26 +534,6 @@ static void null_with_length_0(void)
     take(&told, XANHUPIVE_COMPLETION, part + 43, 1, out, 33);
     expect(told.answer == 0 && told.took == 1 && told.wrote == 33, "its LF, with room");
     expect(memcmp(out, completed, 33) == 0 && out[33] == 0, "and its answer");
-}
-
-/* A line begun for one sheet and ended for another is answered as the other has it. */
-static void changed_sheets(void)
-{
-    const uint8_t *part = (const uint8_t *)listing;
-    const size_t line = 43, half = 20;
-    struct told told;
-    for (uint64_t first = 0; first < SHEETS; first++) {
-        for (uint64_t other = 0; other < SHEETS; other++) {
-            uint8_t out[XANHUPIVE_LONGEST_ANSWER] = {0};
-            uint8_t alone[XANHUPIVE_LONGEST_ANSWER] = {0};
-            size_t length = answer_to(other, part, line, alone);
-            xanhupive_reader_begin(reader, XANHUPIVE_READER);
-            take(&told, first, part, half, out, sizeof out);
-            expect(told.answer == 0 && told.took == half && told.wrote == 0, "half a line for one sheet");
-            take(&told, other, part + half, line + 1 - half, out, sizeof out);
-            expect(told.answer == 0 && told.wrote == length && memcmp(out, alone, length) == 0, "the other half for another");
-        }
-    }
 }
 
 /* What stands behind the reader's own bytes is not written. */
@@ -588,7 +567,6 @@ static int edges(void)
     state = 1;
     misuse();
     null_with_length_0();
-    changed_sheets();
     longer_readers();
     known_list(listing, listing_length, completed, completed_length);
     known_list(long_request, sizeof long_request - 1, longest, XANHUPIVE_LONGEST_COMPLETION);
@@ -601,7 +579,7 @@ static int edges(void)
 /* Arguments that are none. */
 static void usage(void)
 {
-    fputs("parts [SEED [0|1|2]]\n", stderr);
+    fputs("parts [SEED [0|1]]\n", stderr);
     exit(2);
 }
 
@@ -629,5 +607,5 @@ int main(int count, char **words)
         usage();
     }
     state = number(words[1], UINT64_MAX);
-    return answer_list(count == 3 ? number(words[2], SHEETS - 1) : XANHUPIVE_COMPLETION);
+    return answer_list(count == 3 ? number(words[2], 1) : XANHUPIVE_COMPLETION);
 }

@@ -9,7 +9,7 @@
  *
  * No measured depth may be above the header's; nor may the header's, which is rounded up to sixteen bytes, be more
  * than an eighth above the measured one, so that it does not stay behind when the code changes. Needs x86-64, as the
- * library does. Compiled with CONTROLLER and linked with libcontroller.a, it measures the two functions there. */
+ * library does. Compiled with CONTROLLER and linked with libcontroller.a, it measures xanhupive_measure there. */
 #include "checks.h"
 
 #include <string.h>
@@ -20,7 +20,6 @@
 /* What a library may lack. */
 #pragma weak xanhupive_complete_line
 #pragma weak xanhupive_predict_line
-#pragma weak xanhupive_predict_line_geometric_mean
 #pragma weak xanhupive_spectrum
 #pragma weak xanhupive_period
 #pragma weak xanhupive_reader_begin
@@ -124,31 +123,35 @@ struct line {
 static uint8_t reader[XANHUPIVE_READER];
 static uint8_t out[XANHUPIVE_LONGEST_ANSWER];
 static double rows[XANHUPIVE_NUMBERS];
-static double median, sigma;
+static double median, total;
 static uint64_t took, wrote;
 static uint8_t file[XANHUPIVE_FILE_HEAD + XANHUPIVE_RECORD];
 static uint8_t list_back[XANHUPIVE_LONGEST_LINE + 1];
 
 /* ---- the calls of each function with a line; what they answer is what the function answers on any stack ---- */
 
-/* The functions that complete or predict a line, and those of one measure. */
-typedef size_t answer_function(const uint8_t *, size_t, uint8_t *, size_t);
-typedef uint32_t measure_function(const uint8_t *, size_t, uint64_t, double *, double *);
-
-/* A line completed or predicted: with no room for its answer, and with enough. */
-static void answer_line(function *called, const struct line *line)
+/* A line completed: with no room for its answer, and with enough. */
+static void complete_line(function *called, const struct line *line)
 {
-    size_t answer = ((answer_function *)called)(line->bytes, line->length, out, sizeof out);
-    expect(sized(called, GIVEN(AT(line->bytes), line->length, AT(out), 0)) == 0, "no room for a line's answer");
-    expect(sized(called, GIVEN(AT(line->bytes), line->length, AT(out), sizeof out)) == answer, "a line's answer");
+    size_t answer = xanhupive_complete_line(line->bytes, line->length, out, sizeof out);
+    expect(sized(called, GIVEN(AT(line->bytes), line->length, AT(out), 0)) == 0, "no room to complete");
+    expect(sized(called, GIVEN(AT(line->bytes), line->length, AT(out), sizeof out)) == answer, "a line completed");
+}
+
+/* A line predicted: with no room for its answer, and with enough. */
+static void predict_line(function *called, const struct line *line)
+{
+    size_t answer = xanhupive_predict_line(line->bytes, line->length, out, sizeof out);
+    expect(sized(called, GIVEN(AT(line->bytes), line->length, AT(out), 0)) == 0, "no room to predict");
+    expect(sized(called, GIVEN(AT(line->bytes), line->length, AT(out), sizeof out)) == answer, "a line predicted");
 }
 
 /* One measure: each in turn, and one that there is not. */
 static void measure(function *called, const struct line *line)
 {
     uint64_t which = line->number % (XANHUPIVE_MEASURES + 1);
-    uint32_t answer = ((measure_function *)called)(line->bytes, line->length, which, &median, &sigma);
-    const uint64_t *given = GIVEN(AT(line->bytes), line->length, which, AT(&median), AT(&sigma));
+    uint32_t answer = xanhupive_measure(line->bytes, line->length, which, &median, &total);
+    const uint64_t *given = GIVEN(AT(line->bytes), line->length, which, AT(&median), AT(&total));
     expect(refused(called, given) == answer, "one measure");
 }
 
@@ -210,7 +213,7 @@ static uint32_t part_taken(function *called, uint64_t sheet, const uint8_t *part
     return refused(called, given);
 }
 
-/* A list in parts, by every sheet and by what is none: the first bytes of a line, then all to the list's end, with no
+/* A list in parts, by both sheets and by what is none: the first bytes of a line, then all to the list's end, with no
  * room and with room for an answer at least. */
 static void take_part(function *called, const struct line *line)
 {
@@ -218,7 +221,7 @@ static void take_part(function *called, const struct line *line)
     size_t left = line->left - cut;
     const uint8_t *others = line->bytes + cut;
     int ends = line->left > line->length;
-    for (uint64_t sheet = XANHUPIVE_COMPLETION; sheet <= XANHUPIVE_PREDICTION_GEOMETRIC_MEAN; sheet++) {
+    for (uint64_t sheet = XANHUPIVE_COMPLETION; sheet <= XANHUPIVE_PREDICTION; sheet++) {
         xanhupive_reader_begin(reader, sizeof reader);
         uint32_t answer = part_taken(called, sheet, line->bytes, cut, sizeof out);
         expect(answer == 0 && took == cut, "the first bytes of a line");
@@ -227,7 +230,7 @@ static void take_part(function *called, const struct line *line)
         answer = part_taken(called, sheet, others, left, sizeof out);
         expect(answer == 0 && (left == 0 || took > 0) && (wrote > 0) == ends, "the line's others, and the list's");
     }
-    uint32_t answer = part_taken(called, XANHUPIVE_PREDICTION_GEOMETRIC_MEAN + 1, others, left, sizeof out);
+    uint32_t answer = part_taken(called, XANHUPIVE_PREDICTION + 1, others, left, sizeof out);
     expect(answer == XANHUPIVE_MISUSE, "what is no sheet");
 }
 
@@ -300,12 +303,12 @@ static void record_spectrum(function *called, const struct line *line)
     expect(refused(called, given) == XANHUPIVE_MISUSE, "a record too short");
 }
 
-/* A record's answer, by every sheet and by what is none: with no room, and with enough. */
+/* A record's answer, by both sheets and by what is none: with no room, and with enough. */
 static void record_answer(function *called, const struct line *line)
 {
     const uint8_t *record = file + XANHUPIVE_FILE_HEAD;
     xanhupive_pack(line->bytes, with_end(line), file, sizeof file, &wrote);
-    for (uint64_t sheet = XANHUPIVE_COMPLETION; sheet <= XANHUPIVE_PREDICTION_GEOMETRIC_MEAN + 1; sheet++) {
+    for (uint64_t sheet = XANHUPIVE_COMPLETION; sheet <= XANHUPIVE_PREDICTION + 1; sheet++) {
         for (size_t room = 0; room <= sizeof out; room += sizeof out) {
             uint32_t answer = xanhupive_record_answer(record, XANHUPIVE_RECORD, sheet, out, room, &wrote);
             const uint64_t *given = GIVEN(AT(record), XANHUPIVE_RECORD, sheet, AT(out), room, AT(&wrote));
@@ -316,13 +319,11 @@ static void record_answer(function *called, const struct line *line)
 
 /* ---- the depths ---- */
 
-/* What the header says of one measure: the controller's library has other figures. */
+/* What the header says of xanhupive_measure: the controller's library has another figure. */
 #ifdef CONTROLLER
 #define MEASURE_STATED XANHUPIVE_STACK_CONTROLLER
-#define GEOMETRIC_MEAN_STATED XANHUPIVE_STACK_CONTROLLER_GEOMETRIC_MEAN
 #else
 #define MEASURE_STATED XANHUPIVE_STACK_MEASURE
-#define GEOMETRIC_MEAN_STATED XANHUPIVE_STACK_MEASURE_GEOMETRIC_MEAN
 #endif
 
 /* The functions, how each is called with a line, and what the header says. */
@@ -332,12 +333,9 @@ static const struct measured {
     void (*calls)(function *called, const struct line *line);
     size_t stated;
 } FUNCTIONS[] = {
-    {"xanhupive_complete_line", (function *)xanhupive_complete_line, answer_line, XANHUPIVE_STACK_COMPLETE_LINE},
-    {"xanhupive_predict_line", (function *)xanhupive_predict_line, answer_line, XANHUPIVE_STACK_PREDICT_LINE},
-    {"xanhupive_predict_line_geometric_mean", (function *)xanhupive_predict_line_geometric_mean, answer_line,
-     XANHUPIVE_STACK_PREDICT_LINE_GEOMETRIC_MEAN},
+    {"xanhupive_complete_line", (function *)xanhupive_complete_line, complete_line, XANHUPIVE_STACK_COMPLETE_LINE},
+    {"xanhupive_predict_line", (function *)xanhupive_predict_line, predict_line, XANHUPIVE_STACK_PREDICT_LINE},
     {"xanhupive_measure", (function *)xanhupive_measure, measure, MEASURE_STATED},
-    {"xanhupive_measure_geometric_mean", (function *)xanhupive_measure_geometric_mean, measure, GEOMETRIC_MEAN_STATED},
     {"xanhupive_spectrum", (function *)xanhupive_spectrum, spectrum, XANHUPIVE_STACK_SPECTRUM},
     {"xanhupive_period", (function *)xanhupive_period, period, XANHUPIVE_STACK_PERIOD},
     {"xanhupive_reader_begin", (function *)xanhupive_reader_begin, reader_begin, XANHUPIVE_STACK_READER_BEGIN},
@@ -388,7 +386,7 @@ int main(void)
         const struct measured *measured = &FUNCTIONS[k];
         if (measured->called != NULL) {
             size_t most = deepest(measured, list, length);
-            printf("%-38s%8zu%8zu\n", measured->name, most, measured->stated);
+            printf("%-26s%8zu%8zu\n", measured->name, most, measured->stated);
             expect(most <= measured->stated, "no call goes deeper than the header says");
             expect(measured->stated < most + most / 8 + 16, "the header says at most an eighth more than was measured");
         }

@@ -4,7 +4,7 @@
  * as a file, written, read back, and answered record by record.
  * Link libexport.a, which `rt staticlib export` writes, and nothing beside it but the C library's memcpy and
  * memset. A valve's controller, short of flash, links libcontroller.a instead, which `rt staticlib controller` writes:
- * it has xanhupive_measure and xanhupive_measure_geometric_mean alone, and asks for nothing beside it.
+ * it has xanhupive_measure alone, and asks for nothing beside it.
  *
  * A request line is the thirteen fields with single spaces between them, without its LF: a figure that was measured
  * is its number, one that the caller inferred, say from a map, has a "~" directly before it and its sign, and a blank
@@ -13,31 +13,19 @@
  * number 14. The README has the fields and the table of refusals. Number 26, for a figure that is already marked as
  * estimated by us, comes from no function here: a line cannot mark one.
  *
- * Which sigma is shown: anchors are loaded by one horizontal direction, which nobody knows beforehand, so that
- * xanhupive_predict_line, xanhupive_measure and the sheet XANHUPIVE_PREDICTION show the arbitrary component's. What has
- * geometric_mean in its name shows the geometric mean's, which is the total sigma of a row. The answers look alike:
- * the medians are the same, and nothing in an answer says which sigma stands there. The rows of xanhupive_spectrum,
- * xanhupive_period and xanhupive_record_spectrum have both.
- *
- * A caller of before document 02's K9, when those three showed the geometric mean's sigma, changes one word to get the
- * same answers still, byte for byte: xanhupive_predict_line to xanhupive_predict_line_geometric_mean, xanhupive_measure
- * to xanhupive_measure_geometric_mean, XANHUPIVE_PREDICTION to XANHUPIVE_PREDICTION_GEOMETRIC_MEAN. Without that all
- * compiles and runs as before, and the last number of each line, and the second of a measure, is the arbitrary
- * component's sigma, never a smaller number (the theorem `never-smaller`).
- *
  * What the comments below promise is proved of the source that is compiled, for every line, every
  * measure, every period and every length: one possible answer, and one possible state of what was lent.
  *
  * How near, for every request that is accepted: ln median and each sigma lie within one in the sixth place,
  * one millionth, of the exact value; the median lies within 1 + Y/500000 of the exact Y, counted in its unit of
- * 10^-10, and is at least 1. Of a spectrum that is the theorem `accepted-rows`, of the lines that are written of one
- * `accepted-shown`, of one measure `accepted-measure`, each with either sigma, of one period `accepted-period`;
- * docs/ASSURANCE.md says where they stand.
+ * 10^-10, and is at least 1. Of a spectrum that is the theorem `accepted-rows`, of the lines that
+ * xanhupive_predict_line and a list in parts write of one `accepted-shown`, of one measure `accepted-measure`, of one
+ * period `accepted-period`; docs/ASSURANCE.md says where they stand.
  *
  * What a caller owes, which nothing here can test:
  *   - A pointer and its length are of one block that may be read, and where it is no pointer to const
  *     written. With length 0 any pointer will do, NULL too: nothing is read or written there.
- *   - `median`, `sigma`, `total` and a `rows` or `row` of some length are aligned as a double is, `took`, `wrote` and
+ *   - `median`, `total` and a `rows` or `row` of some length are aligned as a double is, `took`, `wrote` and
  *     `count` as a uint64_t is, and none of these single numbers is NULL.
  *   - What is lent to be written shares no byte with anything else that is lent to the same call, and
  *     no other thread touches it meanwhile.
@@ -62,7 +50,7 @@ extern "C" {
 /* Bytes that are enough for any answer of xanhupive_complete_line, its LF counted. */
 #define XANHUPIVE_LONGEST_COMPLETION 38
 
-/* Bytes that are enough for any answer of any sheet, its LFs counted. */
+/* Bytes that are enough for any answer of either sheet, its LFs counted. */
 #define XANHUPIVE_LONGEST_ANSWER 912
 
 /*
@@ -71,10 +59,7 @@ extern "C" {
  */
 #define XANHUPIVE_MEASURES 24
 
-/*
- * Numbers of a row: ln median, median, and the sigmas intra-event, inter-event, total, which is the geometric mean's, and
- * the arbitrary component's.
- */
+/* Numbers of a row: ln median, median, and the sigmas intra-event, inter-event, total, arbitrary. */
 #define XANHUPIVE_COLUMNS 6
 
 /* Numbers of a spectrum. */
@@ -101,21 +86,16 @@ extern "C" {
 #define XANHUPIVE_RECORD 65
 #define XANHUPIVE_MOST_RECORDS 65535
 
-/*
- * The sheets of a list in parts and of a record: the completing program's answers; the predicting program's, with the
- * arbitrary component's sigma; and those of its option --geometric-mean, with the geometric mean's.
- */
+/* The sheets of a list in parts and of a record: the completing program's answers, and the predicting program's. */
 #define XANHUPIVE_COMPLETION 0
 #define XANHUPIVE_PREDICTION 1
-#define XANHUPIVE_PREDICTION_GEOMETRIC_MEAN 2
 
 /* A call that is wrong in itself: no refusal, and nothing was done. */
 #define XANHUPIVE_MISUSE 255
 
 /*
  * Bytes of stack that a call of each function uses at most, below its caller's stack pointer and with its return
- * address, in libexport.a on x86-64; the last two are those of xanhupive_measure and xanhupive_measure_geometric_mean in
- * libcontroller.a.
+ * address, in libexport.a on x86-64; the last is that of xanhupive_measure in libcontroller.a.
  *
  * They are not proved, since the proof is about a machine without a stack. bench/stack.py takes them from the machine
  * code, the deepest way through it, without what memcpy and memset use; it says what it takes from the source. c/stack
@@ -126,23 +106,20 @@ extern "C" {
  * most: the square root, by quarters of its number, stands on the stack 33 times, the series of the sine 8 times, the
  * digits of a number 20 times.
  */
-#define XANHUPIVE_STACK_COMPLETE_LINE 5008
-#define XANHUPIVE_STACK_PREDICT_LINE 6096
-#define XANHUPIVE_STACK_PREDICT_LINE_GEOMETRIC_MEAN 6096
-#define XANHUPIVE_STACK_MEASURE 1712
-#define XANHUPIVE_STACK_MEASURE_GEOMETRIC_MEAN 1712
+#define XANHUPIVE_STACK_COMPLETE_LINE 5296
+#define XANHUPIVE_STACK_PREDICT_LINE 6384
+#define XANHUPIVE_STACK_MEASURE 1664
 #define XANHUPIVE_STACK_SPECTRUM 7024
 #define XANHUPIVE_STACK_PERIOD 2112
 #define XANHUPIVE_STACK_READER_BEGIN 8
-#define XANHUPIVE_STACK_TAKE_PART 6304
+#define XANHUPIVE_STACK_TAKE_PART 6592
 #define XANHUPIVE_STACK_CLOSE 144
 #define XANHUPIVE_STACK_PACK 1280
 #define XANHUPIVE_STACK_UNPACK 1680
 #define XANHUPIVE_STACK_FILE_RECORDS 1264
 #define XANHUPIVE_STACK_RECORD_SPECTRUM 7024
-#define XANHUPIVE_STACK_RECORD_ANSWER 6112
-#define XANHUPIVE_STACK_CONTROLLER 1248
-#define XANHUPIVE_STACK_CONTROLLER_GEOMETRIC_MEAN 1248
+#define XANHUPIVE_STACK_RECORD_ANSWER 6400
+#define XANHUPIVE_STACK_CONTROLLER 1200
 
 /*
  * The completing program's answer: "ok", the five figures and their letters, m for measured, i for inferred, e for
@@ -155,8 +132,8 @@ extern "C" {
 size_t xanhupive_complete_line(const uint8_t *line, size_t line_length, uint8_t *out, size_t out_length);
 
 /*
- * The predicting program's answer: 24 lines, each of measure number, ln median, median and the arbitrary component's
- * sigma, or one line of "no" and the refusal's number, with the LFs and no NUL.
+ * The predicting program's answer: 24 lines, each of measure number, ln median, median and total sigma,
+ * or one line of "no" and the refusal's number, with the LFs and no NUL.
  *
  * Returns and leaves what xanhupive_complete_line does. Never 0 with XANHUPIVE_LONGEST_ANSWER bytes or
  * more.
@@ -164,31 +141,14 @@ size_t xanhupive_complete_line(const uint8_t *line, size_t line_length, uint8_t 
 size_t xanhupive_predict_line(const uint8_t *line, size_t line_length, uint8_t *out, size_t out_length);
 
 /*
- * The predicting program's answer with its option --geometric-mean: that of xanhupive_predict_line with the geometric
- * mean's sigma, the total one, as the last number of each of the 24 lines.
+ * One measure of a request, without working out the others.
  *
- * Returns and leaves what xanhupive_complete_line does. Never 0 with XANHUPIVE_LONGEST_ANSWER bytes or
- * more.
- */
-size_t xanhupive_predict_line_geometric_mean(const uint8_t *line, size_t line_length, uint8_t *out, size_t out_length);
-
-/*
- * One measure of a request, without working out the others, with the arbitrary component's sigma.
- *
- * Returns 0, with the median in 10^-10 of g, cm/s or cm in `*median`, and the arbitrary component's sigma in
- * millionths in `*sigma`. Each is a whole number, the double exactly that number.
+ * Returns 0, with the median in 10^-10 of g, cm/s or cm in `*median`, and the total sigma in millionths
+ * in `*total`. Each is a whole number, the double exactly that number.
  * Or returns the refusal's number, and both are as they were: 14 for a malformed line, 1 to 13 or 18 for
  * a request that is refused, else 15 for a measure above 23.
  */
-uint32_t xanhupive_measure(const uint8_t *line, size_t line_length, uint64_t measure, double *median, double *sigma);
-
-/*
- * The same measure with the geometric mean's sigma, the total one, in `*total`.
- *
- * Returns and leaves what xanhupive_measure does: the same median, and the same refusals.
- */
-uint32_t xanhupive_measure_geometric_mean(const uint8_t *line, size_t line_length, uint64_t measure, double *median,
-                                          double *total);
+uint32_t xanhupive_measure(const uint8_t *line, size_t line_length, uint64_t measure, double *median, double *total);
 
 /*
  * All 24 measures of a request.
@@ -326,8 +286,8 @@ uint32_t xanhupive_file_records(const uint8_t *file, size_t file_length, uint64_
 uint32_t xanhupive_record_spectrum(const uint8_t *record, size_t record_length, double *rows, size_t rows_length);
 
 /*
- * The answer to a record's request as lines of text, as the sheet shows it: what xanhupive_complete_line,
- * xanhupive_predict_line or xanhupive_predict_line_geometric_mean gives for its line, "no" and a number too.
+ * The answer to a record's request as lines of text, as the sheet shows it: what xanhupive_complete_line or
+ * xanhupive_predict_line gives for its line, "no" and a number too.
  *
  * Returns 0, with how many bytes of `out` were written from its start in `*wrote`. Or returns a number, and all is as
  * it was: 21 for a field, 16 where the answer is longer than `out_length`, or XANHUPIVE_MISUSE where `record_length` is

@@ -1,6 +1,6 @@
-# Lines of `curve` and of `tabulated` are: period in thousandths of a second, ln median, median in 10^-10 g, sigma in
-# millionths, which is that of what `component` names. PGA's line has no period and is drawn at 0.01 s. `period` and `median` are those
-# of a marked period, in the same units, or 0 where none is marked.
+# Lines of `curve` and of `tabulated` are: period in thousandths of a second, ln median, median in 10^-10 g, total sigma in
+# millionths. PGA's line has no period and is drawn at 0.01 s. `period` and `median` are those of a marked period, in the same units,
+# or 0 where none is marked.
 set terminal pngcairo size 800,600 font "Sans,11"
 set title request noenhanced
 set xlabel "Period (s)"
@@ -28,7 +28,7 @@ if (period > 0) {
 plot "curve" using (seconds($1)):(down($3, $4)):(up($3, $4)) with filledcurves linecolor rgb "#d8e4f0" notitle, \
      "curve" using (seconds($1)):(g($3)) with lines linewidth 2 linecolor rgb "#103050" title "median", \
      "curve" using (seconds($1)):(up($3, $4)) with lines dashtype 2 linewidth 1.5 linecolor rgb "#3070b0" \
-         title "median ± one sigma of the ".component, \
+         title "median ± one total sigma", \
      "curve" using (seconds($1)):(down($3, $4)) with lines dashtype 2 linewidth 1.5 linecolor rgb "#3070b0" notitle, \
      "tabulated" using (seconds($1)):(g($3)) with points pointtype 7 pointsize 0.8 linecolor rgb "#103050" title "tabulated periods", \
      "pga" using (0.01):(g($3)) with points pointtype 12 pointsize 2 linewidth 2 linecolor rgb "#c03020" title "PGA"

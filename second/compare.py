@@ -1,12 +1,11 @@
 #!/usr/bin/env python3
 """Runs requests through the proved programs and through the second program and compares every answer.
 
-    python3 second/compare.py SEED COUNT [--rounded] [--complete COMMAND] [--predict COMMAND [--geometric-mean COMMAND] | --no-predict]
-        [--rows COMMAND] [--measures COMMAND] [--periods COMMAND] [--second PATH]
+    python3 second/compare.py SEED COUNT [--rounded] [--complete COMMAND] [--predict COMMAND | --no-predict] [--rows COMMAND]
+        [--measures COMMAND] [--periods COMMAND] [--second PATH]
 
-COMMAND is a path with its arguments, by default target/bin/complete and target/bin/predict, and for the geometric mean's sigma that of
---predict with --geometric-mean behind it; the second program is compiled unless its path is given. Exit 1 on any difference beyond its
-bound:
+COMMAND is a path with its arguments, by default target/bin/complete and target/bin/predict; the second program is compiled unless its
+path is given. Exit 1 on any difference beyond its bound:
 
 - a given figure, a dip, a Z2.5 from Z1.5 or Z1.0, an RRUP off the hanging wall, the letters, the header, the form of a line, the
   number of lines: none may differ;
@@ -24,18 +23,16 @@ bound:
   one that both programs turn away with 12 or 18 must be so at the second program's. A long list must have the longest that is let through
   and the shortest that is too long, with W and ZTOR each measured, inferred and blank;
 - ln median and each sigma: one in the sixth place; a median Y: 1 + Y/500000, and at least 1; from the second program's figure before it
-  is rounded, at the figures that the first completed. What each measure has at worst is told. The predicting program is asked in both
-  ways: it prints ln median, median and the arbitrary component's sigma, or with --geometric-mean the geometric mean's, which is the total.
-  --rows names a program that prints all six figures of a row, as c/rows.c does with the static library: then these are held to their
-  bounds, and the predicting program must print what they have, byte for byte. It is told how many medians of each short period are PGA's,
-  their own being lower; a long list must have some of each, with and without the others;
-- one measure, where --measures names a program that prints each of a request by itself, as c/measures.c does: asked in both ways, the
-  median and the sigma that --rows prints, byte for byte, the request's refusal, and 15 for the number behind the last;
+  is rounded, at the figures that the first completed. What each measure has at worst is told. The predicting program prints ln
+  median, median and total sigma; --rows names a program that prints all six figures of a row, as c/rows.c does with the static
+  library. It is told how many medians of each short period are PGA's, their own being lower; a long list must have some of each, with
+  and without the others;
+- one measure, where --measures names a program that prints each of a request by itself, as c/measures.c does: the median and the total
+  sigma that --rows prints, byte for byte, the request's refusal, and 15 for the number behind the last;
 - rows at periods, where --periods names a program that prints all six figures of a row at the period that stands before each request,
   as c/periods.c does: the same bounds, and a long list must have every whole period from 10 to 10000 thousandths of a second among its
   accepted requests. A refusal: that of the request, else 17 exactly for a period out of that range. At a tabulated period the figures
-  must be those that --rows prints. For a part of the list, at some periods, the predicting program with --period must print what these
-  rows have, byte for byte, in both ways, --geometric-mean before --period and behind it.
+  must be those that --rows prints. A part of the list goes through the predicting program's --period too, at some periods.
 """
 import argparse
 import bisect
@@ -64,11 +61,8 @@ PLACES = [NAMES.index(name) for name in COLUMNS]
 FILLED = sorted([*PLACES, NAMES.index("zhyp")])
 # Each field measured and inferred, and blank if it may be.
 ORIGINS = {(name, origin) for name in NAMES for origin in ("measured", "inferred", "blank") if origin != "blank" or name in STARRED}
-ARBITRARY, TOTAL = "arbitrary sigma", "total sigma"
-ROW = ["ln median", "median", "intra sigma", "inter sigma", TOTAL, ARBITRARY]
-# The two ways: the option that asks the predicting program and single measures for a sigma; and all of them at a period T.
-WAYS = {ARBITRARY: [], TOTAL: ["--geometric-mean"]}
-WAYS_AT = [("--period T", ARBITRARY), ("--geometric-mean --period T", TOTAL), ("--period T --geometric-mean", TOTAL)]
+ROW = ["ln median", "median", "intra sigma", "inter sigma", "total sigma", "arbitrary sigma"]
+PRINTED = ["ln median", "median", "total sigma"]
 MEASURES = 24
 # Of the nine periods up to 0.25 s the first has PGA's own coefficients and never falls below it.
 FALLING = range(1, 9)
@@ -81,9 +75,9 @@ SHOWN = 10
 
 Answer = collections.namedtuple("Answer", "refusal figures letters exact")
 # A request with a period, what the first program completed it to, and which medians are raised to PGA's, None if it is refused; and
-# where a predicted figure stands that is no measure's.
+# where a predicted figure stands, of which program.
 Timed = collections.namedtuple("Timed", "period line completed raised")
-Place = collections.namedtuple("Place", "period")
+Place = collections.namedtuple("Place", "program period")
 # A given RRUP at the limit of 18: where W and ZTOR come from, and by how much it is longer than the longest that is let through.
 Limit = collections.namedtuple("Limit", "w ztor side")
 SIDES = {0: "the longest that are let through", 1: "a metre longer"}
@@ -206,29 +200,9 @@ def row_of(said, number, names):
     return dict(zip(names, figures))
 
 
-def shown(rows, sigma):
-    """What shows one sigma of a request's rows, of which all six figures are printed; a refusal as it is."""
-    if rows.startswith(b"no "):
-        return rows
-    column = 1 + ROW.index(sigma)
-    return b"\n".join(b" ".join((*words[:3], words[column])) for words in (row.split(b" ") for row in rows.split(b"\n")))
-
-
-def by_measure(text):
-    """What single measures are where the predicting program prints a text: median and sigma of each, and 15; or a refusal for each."""
-    if text.startswith(b"no "):
-        return b"\n".join((MEASURES + 1) * [text])
-    return b"\n".join([*(line.split(b" ", 2)[2] for line in text.split(b"\n")), NO_MEASURE])
-
-
-def with_period(words, period):
-    """Words of WAYS_AT as arguments."""
-    return words.replace("T", str(period)).split(" ")
-
-
 def told(place):
     """Where a predicted figure stands, in words."""
-    return f"period {place.period}" if isinstance(place, Place) else f"measure {place}"
+    return f"{place.program} at period {place.period}" if isinstance(place, Place) else f"measure {place}"
 
 
 def line_of(fields):
@@ -328,21 +302,17 @@ class Comparison:
         self.again((program, "sent back"), words, header, [(line, relettered(text, b"e", b"i")) for line, text in accepted])
 
     def again(self, name, words, header, asked):
-        """Checks what a program says to some lines, each with its answer, byte for byte."""
-        self.same(name, run(words, listed(line for line, _ in asked)), header, asked)
-
-    def same(self, name, said, header, asked):
-        """Checks what a program said to some lines, each with its answer, byte for byte; tells the first that got another."""
+        """Checks what a program says to some lines, each with its answer, byte for byte; tells the first that gets another."""
+        said = run(words, listed(line for line, _ in asked))
         self.report.count[name] += len(asked)
         if said == header + listed(answer for _, answer in asked):
             return
         rest = iter(said[len(header):].split(b"\n"))
         for line, text in asked:
-            for wanted in text.split(b"\n"):
-                got = next(rest, b"")
-                if got != wanted:
-                    self.report.fail(line, f"{' '.join(name)}: {got!r}, which must be {wanted!r}")
-                    return
+            got = b"\n".join(next(rest, b"") for _ in text.split(b"\n"))
+            if got != text:
+                self.report.fail(line, f"{' '.join(name)}: {got!r}, which must be {text!r}")
+                return
         self.report.fail(b"", f"{' '.join(name)}: another header, or lines too many")
 
     def converse(self, judgements):
@@ -470,20 +440,18 @@ class Comparison:
             report.fail(b"", f"{len(first) - at} lines too many")
         return said
 
-    def in_both_ways(self, predict, measures, rows, data, lines, completed, sent):
-        """Compares what shows one sigma, in both ways. Where there are rows, the predicting program and, for the lines that have their LF,
-        single measures must print what they have, byte for byte; else the predicting program is held to its bounds."""
-        for sigma, option in WAYS.items():
-            wanted = [shown(text, sigma) for text in rows]
-            if predict and rows:
-                self.same(("predict", sigma), run(predict[sigma], data), b"", list(zip(lines, wanted)))
-            elif predict:
-                wanted = self.predicting(predict[sigma], [*ROW[:2], sigma], data, lines, completed, sent)
-            if predict and sigma == ARBITRARY:
-                self.origins("predict", predict[sigma], lines, sent, wanted)
-            if measures and rows:
-                alone = [(line, by_measure(text)) for line, text in zip(lines[:-1], wanted)]
-                self.again(("measures", sigma), [*measures, *option], b"", alone)
+    def by_measure(self, words, rows, lines, completed):
+        """Compares each measure by itself with the rows, for the lines that have their LF: median and total sigma, byte for byte."""
+        said = iter(run(words, listed(lines[:-1])).split(b"\n"))
+        for line, p, printed in zip(lines[:-1], completed, rows):
+            row = [text.split(b" ") for text in printed.split(b"\n")]
+            wanted = (MEASURES + 1) * [printed] if p.refusal else [b" ".join((w[2], w[5])) for w in row] + [NO_MEASURE]
+            for measure, (a, b) in enumerate(zip(wanted, said)):
+                if a != b:
+                    self.report.fail(line, f"measure {measure} by itself is {b!r}, its row has {a!r}")
+            self.report.count["measures"] += p.refusal == 0
+        if list(said) != [b""]:
+            self.report.fail(b"", "another number of measures by themselves")
 
     def spectrum(self, line, names, mine, others):
         """Compares the 24 lines of one prediction with the second program's finer ones; whether they have the form."""
@@ -503,37 +471,37 @@ class Comparison:
             self.report.row(line, name, place, figure, exact[name])
         return True
 
-    def at_periods(self, words, asked):
-        """Compares rows at periods, the last line being unfinished; gives them, none if there are more or less or one has another form."""
+    def at_periods(self, program, words, names, asked, data):
+        """Compares a program's answers to a list, one line for each request with its period; gives them, none if there are more or less."""
         accepted = [t for t in asked if t.completed.refusal == 0]
         given = listed(b"%d %s" % (t.period, sent_back(t.line, t.completed)) for t in accepted)
         second = run([self.second, "fine-periods"], given).split(b"\n")
-        first = run(words, b"\n".join(b"%d %s" % (t.period, t.line) for t in asked)).split(b"\n")
+        first = run(words, data).split(b"\n")
         if first.pop() != b"" or second.pop() != b"" or len(first) != len(asked) or len(second) != len(accepted):
-            self.report.fail(b"", f"periods: {len(first)} answers for {len(asked)} requests, {len(second)} for {len(accepted)} accepted")
+            self.report.fail(b"", f"{program}: {len(first)} answers for {len(asked)} requests, {len(second)} for {len(accepted)} accepted")
             return []
         theirs = iter(second)
-        fine = [b"no %d" % t.completed.refusal if t.completed.refusal else next(theirs) for t in asked]
-        formed = [self.at_period(t, said, row) for t, said, row in zip(asked, first, fine)]
-        return first if all(formed) else []
+        for t, said in zip(asked, first):
+            refusal = t.completed.refusal
+            self.at_period(Place(program, t.period), t, names, said, b"no %d" % refusal if refusal else next(theirs))
+        return first
 
-    def at_period(self, t, said, fine):
-        """Compares one answer with the request's refusal, or the second program's finer row or its refusal; whether it has the form."""
-        refused, outside, place = fine.startswith(b"no "), t.period not in EVERY_PERIOD, Place(t.period)
+    def at_period(self, place, t, names, said, fine):
+        """Compares one answer with the request's refusal, or with the second program's finer row or its refusal."""
+        refused, outside = fine.startswith(b"no "), t.period not in EVERY_PERIOD
         if t.completed.refusal == 0 and (refused != outside or refused and fine != NO_PERIOD):
             self.report.fail(t.line, f"the second program has {fine!r} at period {t.period}")
         if refused:
-            self.report.count[fine] += 1
+            self.report.count[place.program, fine] += 1
             if said != fine:
                 self.report.fail(t.line, f"{told(place)}, {said!r}, which must be {fine!r}")
-            return said == fine
-        formed = self.row(t.line, ROW, place, t.period, said, fine)
-        self.report.count[place] += formed
-        return formed
+        elif self.row(t.line, names, place, t.period, said, fine):
+            self.report.count[place] += 1
 
     def timed(self, words, rows, asked):
         """Compares rows at periods, and those at tabulated ones with what the program of rows prints, if there is one."""
-        said = self.at_periods(words, asked)
+        data = b"\n".join(b"%d %s" % (t.period, t.line) for t in asked)
+        said = self.at_periods("periods", words, ROW, asked, data)
         tilded = [(t, text) for t, text in zip(asked, said) if b"~" in t.line and text != MALFORMED]
         self.again(("periods", "measured"), words, b"", [(b"%d %s" % (t.period, measured(t.line)), text) for t, text in tilded])
         if rows and said:
@@ -551,17 +519,14 @@ class Comparison:
             if said.partition(b" ")[2] != row.partition(b" ")[2]:
                 self.report.fail(t.line, f"{said!r} at a tabulated period, where its row is {row!r}")
 
-    def one_period(self, predict, timed, lines, completed):
-        """Compares what the predicting program prints with --period, in both ways, with the rows at that period, byte for byte, for a part
-        of the list and its unfinished line."""
+    def one_period(self, predict, lines, completed):
+        """Compares what the predicting program prints with --period, for a part of the list and its unfinished line."""
         step = max(1, len(lines) // PART)
         part = [*zip(lines[:-1:step], completed[:-1:step]), (lines[-1], completed[-1])]
         data = b"\n".join(line for line, _ in part)
         for period in ASKED:
-            rows = self.at_periods(timed, [Timed(period, line, p, None) for line, p in part])
-            for words, sigma in WAYS_AT if rows else ():
-                wanted = [(line, shown(text, sigma)) for (line, _), text in zip(part, rows)]
-                self.same(("predict", words), run([*predict, *with_period(words, period)], data), b"", wanted)
+            asked = [Timed(period, line, p, None) for line, p in part]
+            self.at_periods("predict", [*predict, "--period", str(period)], PRINTED, asked, data)
 
     def raised(self, sent):
         """The measures of each accepted request whose medians the second program raises to PGA's; none where it refuses it."""
@@ -570,11 +535,9 @@ class Comparison:
 
     def short_lists(self, predict, timed):
         """Compares what the programs print for lists without an accepted line, byte for byte."""
-        pairs = [(self.first, [self.second, "complete"])]
-        pairs += [(words, [self.second, "predict", *WAYS[sigma]]) for sigma, words in predict.items()]
+        pairs = [(self.first, [self.second, "complete"])] + ([(predict, [self.second, "predict"])] if predict else [])
         pairs += [(timed, [self.second, "periods"])] if timed else []
-        for words, _ in WAYS_AT if timed and predict else ():
-            pairs.append(([*predict[ARBITRARY], *with_period(words, 370)], [self.second, "predict", *with_period(words, 370)]))
+        pairs += [([*predict, "--period", "370"], [self.second, "period", "370"])] if timed and predict else []
         for data in refused_lists():
             if any(run(first, data) != run(second, data) for first, second in pairs):
                 self.report.fail(data[:100], "another answer to this short list")
@@ -635,16 +598,16 @@ def tell_raised(report, raised, long):
         report.fail(b"", "the list does not show each short period below PGA, or another measure is raised")
 
 
-def tell_periods(report):
-    """Prints how far each figure was off at periods; gives these periods."""
-    count = {place.period: n for place, n in report.count.items() if isinstance(place, Place)}
-    print(f"{sum(count.values())} rows compared at {len(count)} periods, {report.count[NO_PERIOD]} periods refused")
+def tell_periods(report, program, names):
+    """Prints how far each figure of a program was off at periods; gives these periods."""
+    count = {place.period: n for place, n in report.count.items() if isinstance(place, Place) and place.program == program}
+    print(f"{program}: {sum(count.values())} rows compared at {len(count)} periods, {report.count[program, NO_PERIOD]} periods refused")
     gaps = collections.defaultdict(float)
     for period in count:
         below = PERIODS[bisect.bisect(PERIODS, period) - 1]
-        for name in ROW:
-            gaps[name, below] = max(gaps[name, below], report.high[name, Place(period)])
-    tell_worst(gaps, ROW, sorted({below for _, below in gaps}), "period", "from each tabulated period to the next")
+        for name in names:
+            gaps[name, below] = max(gaps[name, below], report.high[name, Place(program, period)])
+    tell_worst(gaps, names, sorted({below for _, below in gaps}), "period", "from each tabulated period to the next")
     return set(count)
 
 
@@ -672,14 +635,13 @@ def tell_gaps(report, asked, long):
 
 def tell_timed(report, asked, predict, rows, long):
     """Prints what was compared at periods; a long list must have every one."""
-    if set(EVERY_PERIOD) - tell_periods(report) and long:
+    if set(EVERY_PERIOD) - tell_periods(report, "periods", ROW) and long:
         report.fail(b"", "the list leaves out a period")
     tell_gaps(report, asked, long)
     if rows:
         print(f"{report.count['tabulated']} of these rows at tabulated periods compared with the tabulated ones byte for byte")
     if predict:
-        for words, sigma in WAYS_AT:
-            print(f"{sigma} as these rows have it, byte for byte: {report.count['predict', words]} lines of predict {words}")
+        tell_periods(report, "predict", PRINTED)
 
 
 def tell(report, accepted, predicted):
@@ -689,12 +651,8 @@ def tell(report, accepted, predicted):
         print(f"{name}: {report.count[name]} estimated, from {report.low[name]:.3f} to {report.high[name]:.3f} m off, bounds -{below} and {above}")
     print(f"{report.count['apart']} answers differ, {report.count['refused']} of them in being refused")
     if predicted:
-        print(f"{MEASURES * accepted} rows of measures compared")
+        print(f"{MEASURES * accepted} rows of measures compared, {report.count['measures']} requests by single measures too")
         tell_worst(report.high, predicted, range(MEASURES), "measure", "of each measure")
-    for sigma in WAYS:
-        programs = [program for program in ("predict", "measures") if (program, sigma) in report.count]
-        if programs:
-            print(f"{sigma} as these rows have it, byte for byte: " + ", ".join(f"{report.count[p, sigma]} lines of {p}" for p in programs))
 
 
 def tell_failures(report):
@@ -712,7 +670,6 @@ def read_options():
     options.add_argument("--rounded", action="store_true", help="hold estimates to the way in which they are rounded")
     options.add_argument("--complete", default=os.path.join(ROOT, "target/bin/complete"))
     options.add_argument("--predict", default=os.path.join(ROOT, "target/bin/predict"))
-    options.add_argument("--geometric-mean", help="what shows the geometric mean's sigma; --predict with this option, unless it is given")
     options.add_argument("--no-predict", action="store_true", help="compare completed requests alone")
     options.add_argument("--rows", help="a program that prints all six figures of a row")
     options.add_argument("--measures", help="a program that prints each measure by itself")
@@ -724,19 +681,11 @@ def read_options():
     return given
 
 
-def predicting_programs(given):
-    """The predicting program's commands, by the sigma that they show; none with --no-predict."""
-    if given.no_predict:
-        return {}
-    mean = given.geometric_mean and command(given.geometric_mean)
-    return {ARBITRARY: command(given.predict), TOTAL: mean or command(given.predict) + WAYS[TOTAL]}
-
-
 def main():
     """One comparison, from its options to its exit status."""
     given = read_options()
-    predict = predicting_programs(given)
-    rows, measures, timed = (words and command(words) for words in (given.rows, given.measures, given.periods))
+    predict = None if given.no_predict else command(given.predict)
+    rows, timed = (words and command(words) for words in (given.rows, given.periods))
     report, long = Report(ROUNDED if given.rounded else BOUNDS), given.count >= LONG
     comparison = Comparison(command(given.complete), given.second or build(), report)
     data = requests(given.seed, given.count)
@@ -744,15 +693,19 @@ def main():
     completed, said = comparison.completing(data, lines)
     sent = [sent_back(line, p) if p and p.refusal == 0 else None for line, p in zip(lines, completed)]
     comparison.origins("complete", comparison.first, lines, sent, said, HEADER + b"\n")
-    if completed:
-        printed = comparison.predicting(rows, ROW, data, lines, completed, sent) if rows else []
-        comparison.in_both_ways(predict, measures, printed, data, lines, completed, sent)
+    if completed and predict:
+        printed = comparison.predicting(predict, PRINTED, data, lines, completed, sent)
+        comparison.origins("predict", predict, lines, sent, printed)
+    if completed and rows:
+        printed = comparison.predicting(rows, ROW, data, lines, completed, sent)
+        if printed and given.measures:
+            comparison.by_measure(command(given.measures), printed, lines, completed)
     raised, asked = comparison.raised(sent) if predict or timed else [], []
     if completed and timed and all(completed):
         asked = asked_at(given.seed, lines, completed, raised, long)
         comparison.timed(timed, rows, asked)
         if predict:
-            comparison.one_period(predict[ARBITRARY], timed, lines, completed)
+            comparison.one_period(predict, lines, completed)
     comparison.short_lists(predict, timed)
 
     patterns, refusals = covered(lines, completed)
@@ -765,7 +718,7 @@ def main():
     tell_lengths(report, long)
     if completed and predict:
         tell_raised(report, raised, long)
-    tell(report, accepted, ROW if rows else [*ROW[:2], *WAYS] if predict else [])
+    tell(report, accepted, ROW if rows else PRINTED if predict else [])
     if timed:
         tell_timed(report, asked, predict, rows, long)
     tell_failures(report)

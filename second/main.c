@@ -1,10 +1,9 @@
 /* The second program: a list of requests on standard input, its answers on standard output.
 
        second complete        document 01's completing program
-       second predict         document 01's predicting program: each measure's number, ln median, median, arbitrary component's sigma
-       second period T        its line for each request at a period, T thousandths of a second: T, ln median, median, that sigma;
+       second predict         document 01's predicting program
+       second period T        its line for each request at a period, T thousandths of a second: T, ln median, median, total sigma;
                               `second predict --period T` is the same
-       second measures        each measure by itself, and the number behind the last: median and that sigma, or the refusal
        second rows            as predict, with all six figures of a row: ln median, median, intra, inter, total, arbitrary
        second fine            as rows, each figure in thousandths of its reported unit
        second periods         each line has its own period before the request, with a space between: all six figures of that row, the
@@ -17,7 +16,6 @@
                               as complete has them, a semicolon and a space between; a refused request's refusal
        second each-marked     the request thirteen times, each time with one field marked as estimated by us: the refusals' numbers
 
-   With `--geometric-mean`, on either side of `--period T`, predict, period and measures show the geometric mean's sigma, the total.
    A period is any whole number of 64 bits, of 20 digits at most. And between two paths, a list and the file for site lists:
 
        second pack LIST FILE      writes the file of a list
@@ -36,16 +34,11 @@
 
 #define BLOCK 65536
 #define PERIOD_DIGITS 20
-#define NO_MEASURE 15
 
-/* Whose sigma a line shows. */
-enum component { ARBITRARY, GEOMETRIC_MEAN };
-
-/* What a line asks: a request and, where the command has them, a period in thousandths of a second and whose sigma it shows. */
+/* What a line asks: a request and, where the command has one, a period in thousandths of a second. */
 struct asked {
     struct request request;
     unsigned long long period;
-    enum component component;
 };
 
 typedef void answer(const struct asked *asked);
@@ -184,18 +177,13 @@ static void print_fine(unsigned long long number, const struct prediction *p) {
         llround(p->intra * 1e9), llround(p->inter * 1e9), llround(p->total * 1e9), llround(p->arbitrary * 1e9));
 }
 
-/* The sigma that a line shows of a row. */
-static long long shown(const struct row *row, enum component component) {
-    return component == GEOMETRIC_MEAN ? row->total : row->arbitrary;
-}
-
 /* The lines of `predict`. */
 static void answer_predict(const struct asked *asked) {
     struct prediction spectrum[MEASURES];
     int count = spectrum_of(&asked->request, spectrum);
     for (int k = 0; k < count; k++) {
         struct row r = reported(&spectrum[k]);
-        printf("%d %lld %lld %lld\n", k, r.ln_median, r.median, shown(&r, asked->component));
+        printf("%d %lld %lld %lld\n", k, r.ln_median, r.median, r.total);
     }
 }
 
@@ -205,23 +193,7 @@ static void answer_period(const struct asked *asked) {
     if (!row_of(asked, &p))
         return;
     struct row row = reported(&p);
-    printf("%llu %lld %lld %lld\n", asked->period, row.ln_median, row.median, shown(&row, asked->component));
-}
-
-/* The lines of `measures`. */
-static void answer_measures(const struct asked *asked) {
-    struct completed c = complete_request(&asked->request);
-    for (int measure = 0; measure <= MEASURES; measure++) {
-        int refusal = c.refusal ? c.refusal : measure < MEASURES ? 0 : NO_MEASURE;
-        if (refusal) {
-            printf("no %d\n", refusal);
-            continue;
-        }
-        struct figures f = figures_of(&c);
-        struct prediction p = predict_one(&f, measure);
-        struct row one = reported(&p);
-        printf("%lld %lld\n", one.median, shown(&one, asked->component));
-    }
+    printf("%llu %lld %lld %lld\n", asked->period, row.ln_median, row.median, row.total);
 }
 
 /* The lines of `rows`. */
@@ -269,7 +241,6 @@ static const struct command COMMANDS[] = {
     {"complete", answer_complete, NO_SOURCE},
     {"predict", answer_predict, NO_SOURCE},
     {"period", answer_period, ITS_ARGUMENT},
-    {"measures", answer_measures, NO_SOURCE},
     {"rows", answer_rows, NO_SOURCE},
     {"fine", answer_fine, NO_SOURCE},
     {"periods", answer_periods, EACH_LINE},
@@ -306,30 +277,25 @@ static size_t period_before(const char *bytes, size_t size, unsigned long long *
     return digits < size && parse_period(bytes, digits, period) ? digits + 1 : 0;
 }
 
-/* The refusal of a malformed line: `measures` has one for each of its answers. */
-static void refuse_line(const struct command *command) {
-    for (int left = command->to == answer_measures ? MEASURES + 1 : 1; left > 0; left--)
-        printf("no %d\n", MALFORMED);
-}
-
-/* The answer to one line without its LF, by what the arguments ask of each line, and by its own period where it has one. */
-static void answer_line(const char *bytes, size_t size, const struct command *command, struct asked asked) {
+/* The answer to one line without its LF, the period being that of the command's argument unless each line has its own. */
+static void answer_line(const char *bytes, size_t size, const struct command *command, unsigned long long period) {
+    struct asked asked = {.period = period};
     int own = command->period == EACH_LINE;
     size_t before = own ? period_before(bytes, size, &asked.period) : 0;
     if ((before || !own) && parse_line(bytes + before, size - before, &asked.request))
         command->to(&asked);
     else
-        refuse_line(command);
+        printf("no %d\n", MALFORMED);
 }
 
 /* The answers to a list; of a line, no more is held than shows that it is too long. */
-static void answer_list(const struct command *command, struct asked asked) {
+static void answer_list(const struct command *command, unsigned long long period) {
     char block[BLOCK], held[PERIOD_DIGITS + 1 + LINE_BYTES + 1];
     size_t size = 0, count;
     while ((count = fread(block, 1, sizeof block, stdin)) > 0) {
         for (size_t k = 0; k < count; k++) {
             if (block[k] == '\n') {
-                answer_line(held, size, command, asked);
+                answer_line(held, size, command, period);
                 size = 0;
             } else if (size < sizeof held) {
                 held[size++] = block[k];
@@ -337,43 +303,24 @@ static void answer_list(const struct command *command, struct asked asked) {
         }
     }
     if (size > 0)
-        refuse_line(command);
+        printf("no %d\n", MALFORMED);
 }
 
-/* The command of a name; NULL if there is none. */
-static const struct command *named(const char *name) {
-    for (size_t k = 0; k < COMMANDS_COUNT; k++)
-        if (strcmp(COMMANDS[k].name, name) == 0)
-            return &COMMANDS[k];
-    return NULL;
-}
-
-/* Whether a command shows one sigma of a row, for which its arguments may ask. */
-static int shows_one(const struct command *command) {
-    return command->to == answer_predict || command->to == answer_period || command->to == answer_measures;
-}
-
-/* Whether there is such an argument and it is a period, which is then asked for. */
-static int take_period(int count, char **words, int at, struct asked *asked) {
-    return at < count && parse_period(words[at], strlen(words[at]), &asked->period);
-}
-
-/* The command of the arguments, with what they ask of each line: a name, the period of `period`, then options, each once at most. NULL if
-   they name none. */
-static const struct command *command_of(int count, char **words, struct asked *asked) {
-    const struct command *command = count > 1 ? named(words[1]) : NULL;
-    int at = 2;
-    if (command && command->period == ITS_ARGUMENT && !take_period(count, words, at++, asked))
+/* The command of the arguments, with its period; NULL if they name none. */
+static const struct command *command_of(int count, char **words, unsigned long long *period) {
+    int long_form = count == 4 && strcmp(words[1], "predict") == 0 && strcmp(words[2], "--period") == 0;
+    const char *name = long_form ? "period" : count > 1 ? words[1] : "";
+    size_t k = 0;
+    while (k < COMMANDS_COUNT && strcmp(COMMANDS[k].name, name) != 0)
+        k++;
+    if (k == COMMANDS_COUNT)
         return NULL;
-    for (; command && at < count; at++) {
-        if (shows_one(command) && asked->component == ARBITRARY && strcmp(words[at], "--geometric-mean") == 0)
-            asked->component = GEOMETRIC_MEAN;
-        else if (command->to == answer_predict && strcmp(words[at], "--period") == 0 && take_period(count, words, ++at, asked))
-            command = named("period");
-        else
-            return NULL;
-    }
-    return command;
+    if (COMMANDS[k].period != ITS_ARGUMENT)
+        return count == 2 ? &COMMANDS[k] : NULL;
+    if (count != 3 && !long_form)
+        return NULL;
+    const char *last = words[count - 1];
+    return parse_period(last, strlen(last), period) ? &COMMANDS[k] : NULL;
 }
 
 /* All bytes of a path, allocated; NULL if they cannot be had. */
@@ -447,21 +394,20 @@ static int convert(conversion *to_made, const char *from, const char *to) {
 
 /* Runs the command that the arguments name. */
 int main(int count, char **words) {
-    struct asked asked = {.component = ARBITRARY};
+    unsigned long long period = 0;
     if (count == 4 && strcmp(words[1], "pack") == 0)
         return convert(packed, words[2], words[3]);
     if (count == 4 && strcmp(words[1], "unpack") == 0)
         return convert(unpacked, words[2], words[3]);
-    const struct command *command = command_of(count, words, &asked);
+    const struct command *command = command_of(count, words, &period);
     if (command == NULL) {
-        fputs("second complete|rows|fine|periods|fine-periods|raised|figures|record|marked|each-marked, "
-              "second predict [--geometric-mean] [--period T], second period T [--geometric-mean], second measures [--geometric-mean], "
+        fputs("second complete|predict|rows|fine|periods|fine-periods|raised|figures|record|marked|each-marked, second period T, "
               "second pack LIST FILE, second unpack FILE LIST\n",
             stderr);
         return 2;
     }
     if (command->to == answer_complete || command->to == answer_figures)
         puts("dip W ZTOR RRUP Z25 from");
-    answer_list(command, asked);
+    answer_list(command, period);
     return ferror(stdin) || fflush(stdout) != 0 || ferror(stdout);
 }

@@ -18,9 +18,6 @@ import sys
 
 from programs import HERE, build, scratch
 
-# Which sigma is shown, as the lists below have it.
-SHOWN = "component == GEOMETRIC_MEAN ? row->total : row->arbitrary"
-
 # What must be refused: a file, a piece of its text, what takes its place.
 WRONG = [
     ("request.c", "size > LINE_BYTES", "size > LINE_BYTES - 60"),
@@ -106,12 +103,8 @@ WRONG = [
     ("main.c", '"%d %lld %lld %lld\\n", k, r.', '"%d %lld %lld %lld\\n", k == 22 ? 23 : k, r.'),
     ("main.c", '"%d %lld %lld %lld\\n", k, r.', '"%d %lld %lld  %lld\\n", k, r.'),
     ("main.c", '"%d %lld %lld %lld\\n", k, r.', '"%d %+lld %lld %lld\\n", k, r.'),
-    # the geometric mean's sigma by default, the arbitrary component's where the other is asked for, the two exchanged, a third one
-    ("main.c", SHOWN, "row->total"),
-    ("main.c", SHOWN, "row->arbitrary"),
-    ("main.c", SHOWN, SHOWN.replace("==", "!=")),
-    ("main.c", SHOWN, SHOWN.replace("arbitrary", "intra")),
-    ("main.c", SHOWN, SHOWN.replace("total", "intra")),
+    ("main.c", "r.median, r.total);", "r.median, r.arbitrary);"),
+    ("main.c", "r.median, r.total);", "r.median, r.intra);"),
     ("main.c", "    return MEASURES;", "    return MEASURES - 1;"),
     ("model.c", "spectrum[measure] = predict(f, measure, a,", "spectrum[measure] = predict(f, 0, a,"),
     ("model.c", "#define C 1.88", "#define C 1.881"),
@@ -144,16 +137,12 @@ WRONG = [
     ("model.c", "p.ln_median = fmax(own, least);", "p.ln_median = own;"),
     ("model.c", "p.median = exp(p.ln_median);", "p.median = exp(own);"),
     ("model.c", "p.total = sqrt(total2);", "p.total = p.raised ? 0.526 : sqrt(total2);"),
-    ("model.c", "sqrt(total2 + d->component * d->component)", "p.total + d->component"),
-    ("model.c", "sqrt(total2 + d->component * d->component)", "sqrt(intra2 + d->component * d->component)"),
-    ("model.c", "sqrt(total2 + d->component * d->component)", "hypot(p.total, TABLE3[p.raised ? MEASURE_PGA : measure].component)"),
     ("model.c", "2 * alpha * d->rho * below * rock", "alpha * d->rho * below * rock"),
     ("model.c", "alpha * alpha * rock * rock", "alpha * alpha * rock"),
     # in the sixth place one more than the nearest, one more than the next above, one less; a median three parts in 10^6 off, two units off
     ("model.c", "llround(p->ln_median * 1e6)", "llround(p->ln_median * 1e6) + 1"),
     ("model.c", "llround(p->ln_median * 1e6)", "(long long)ceil(p->ln_median * 1e6) + 1"),
     ("model.c", "llround(p->total * 1e6)", "llround(p->total * 1e6) - 1"),
-    ("model.c", "llround(p->arbitrary * 1e6)", "llround(p->arbitrary * 1e6) + 1"),
     ("model.c", "llround(p->median * 1e10)", "llround(p->median * 1.000003e10)"),
     ("model.c", "llround(p->median * 1e10)", "llround(p->median * 1e10) - 2"),
 ]
@@ -294,38 +283,6 @@ WRONG_ORIGINS = [
     ("request.c", STYLE, in_record("F_Z25", "MEASURED")),
 ]
 
-# What --geometric-mean and --period do, and the names of the row that is shown: in the 24 lines, at a period, in single measures.
-MEAN = "asked->component = GEOMETRIC_MEAN;"
-PERIOD = 'command = named("period");'
-ROWS = ["r", "row", "one"]
-
-
-def showing(row, figures):
-    """What puts other figures in the place of the median and the sigma that are shown of a row."""
-    return "main.c", f"{row}.median, shown(&{row}, asked->component)", figures
-
-
-# What must be refused where one sigma is shown and where all are, likewise.
-WRONG_COMPONENTS = [
-    # in the 24 lines alone, at a period alone, in single measures alone: one of the two in both ways, the two exchanged, a third one
-    *(showing(row, f"{row}.median, {row}.total") for row in ROWS),
-    *(showing(row, f"{row}.median, {row}.arbitrary") for row in ROWS),
-    *(showing(row, f"{row}.median, shown(&{row}, !asked->component)") for row in ROWS),
-    *(showing(row, f"{row}.median, {row}.intra") for row in ROWS),
-    # a median that is one more beside the geometric mean's sigma, which is within its bound
-    *(showing(row, f"{row}.median + asked->component, shown(&{row}, asked->component)") for row in ROWS),
-    # --geometric-mean not heard: behind --period, before it, by single measures
-    ("main.c", MEAN, MEAN.replace("=", "= command->to == answer_period ? ARBITRARY :")),
-    ("main.c", PERIOD, f"asked->component = ARBITRARY, {PERIOD}"),
-    ("main.c", MEAN, MEAN.replace("=", "= command->to == answer_measures ? ARBITRARY :")),
-    # rows: the two exchanged, one of them in both places, and so in the 24 rows alone and at periods alone
-    ("main.c", "r.total, r.arbitrary);", "r.arbitrary, r.total);"),
-    ("main.c", "r.total, r.arbitrary);", "r.arbitrary, r.arbitrary);"),
-    ("main.c", "r.total, r.arbitrary);", "r.total, r.total);"),
-    ("main.c", "print_row((unsigned long long)k,", "spectrum[k].total = spectrum[k].arbitrary, print_row((unsigned long long)k,"),
-    ("main.c", "print_row(asked->period, &p);", "p.arbitrary = p.total, print_row(asked->period, &p);"),
-]
-
 # What must be refused though the second program has it too, so that no answer of the two differs.
 WRONG_ALIKE = [
     # what the answers of one program show beside each other: without tildes, and sent back
@@ -361,10 +318,6 @@ WRONG_ALIKE = [
     ("request.c", "has_estimate(f) ? ESTIMATED_ALREADY : source_refusal(f)",
      "source_refusal(f) ? source_refusal(f) : has_estimate(f) ? ESTIMATED_ALREADY : 0"),
     ("request.c", "if (f[k].origin == ESTIMATED)", "if (f[k].origin == ESTIMATED || f[k].origin == INFERRED)"),
-    # what its rows show: the geometric mean's sigma by default, the two exchanged, the geometric mean's by single measures alone
-    ("main.c", SHOWN, "row->total"),
-    ("main.c", SHOWN, SHOWN.replace("==", "!=")),
-    showing("one", "one.median, one.total"),
 ]
 
 # The row at a period and what the rows before the short periods' rule are, as the list below has them.
@@ -433,6 +386,8 @@ WRONG_PERIODS = [
     # the form of the predicting program's line
     ("main.c", '"%llu %lld %lld %lld\\n", asked', '"%llu %lld %lld  %lld\\n", asked'),
     ("main.c", '"%llu %lld %lld %lld\\n", asked', '"%05llu %lld %lld %lld\\n", asked'),
+    ("main.c", "row.median, row.total);", "row.median, row.arbitrary);"),
+    ("main.c", "row.median, row.total);", "row.median, row.intra);"),
 ]
 
 # How the file for site lists is written and read: a number's bytes, the tests of a head, a record's line and its test, a list's lines.
@@ -552,7 +507,7 @@ ALLOWED = [
     ("request.c", "r >= 1 &&", "r > 1 &&"),
 ]
 # The commands that take the proved programs' place, each in the option of its name: all, and those that print a predicted line.
-ALL = ["complete", "predict", "rows", "measures", "periods"]
+ALL = ["complete", "predict", "rows", "periods"]
 PRINTING = ["complete", "predict"]
 # The same for files, and how many random lists each program gets.
 PACKING = ["pack", "unpack"]
@@ -611,7 +566,7 @@ def table_programs():
         text = given.read()
     rows = re.findall(r"\{([^{}]*)\}", text.split("TABLE2[MEASURES] = {")[1])[:24]
     soft = {measure for measure, row in enumerate(rows) if float(row.split(",")[14]) != 0}
-    for table, columns in (("TABLE2", lambda m: range(16)), ("TABLE3", lambda m: range(4) if m in soft else range(3))):
+    for table, columns in (("TABLE2", lambda m: range(16)), ("TABLE3", lambda m: {0, 1, 3} if m in soft else {0, 1})):
         for measure, column, changed in digits(text, table, columns):
             some = changed if (table, measure) == ("TABLE2", 0) else changed[:1]
             yield f"{table} measure {measure} column {column}", [edited("model.c", text, other) for other in some]
@@ -634,8 +589,8 @@ def try_tables(compare):
 
 def try_edits(compare):
     """Tries the lists above; how many of their programs fare otherwise than they must."""
-    bad, printing, whole = 0, WRONG + WRONG_LENGTHS + WRONG_ORIGINS, WRONG_PERIODS + WRONG_COMPONENTS
-    for edit, commands in [(edit, PRINTING) for edit in printing] + [(edit, ALL) for edit in whole]:
+    bad = 0
+    for edit, commands in [(edit, PRINTING) for edit in WRONG + WRONG_LENGTHS + WRONG_ORIGINS] + [(edit, ALL) for edit in WRONG_PERIODS]:
         if tried("compare.py", edited(*edit), *compare, commands=commands)[0]:
             bad += 1
             print(f"FAILED passes: {edit}")
@@ -650,7 +605,8 @@ def try_edits(compare):
             bad += 1
             print(f"FAILED refused: {edit}\n{said}")
         print(f"{edit[2]}: " + "; ".join(line for line in said.split("\n") if "answers differ" in line))
-    print(f"{len(printing + whole + WRONG_ALIKE)} wrong programs and {len(ALLOWED)} allowed ones tried, {bad} fared otherwise")
+    wrong = len(WRONG) + len(WRONG_LENGTHS) + len(WRONG_ORIGINS) + len(WRONG_PERIODS) + len(WRONG_ALIKE)
+    print(f"{wrong} wrong programs and {len(ALLOWED)} allowed ones tried, {bad} fared otherwise")
     return bad
 
 

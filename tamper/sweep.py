@@ -182,7 +182,7 @@ MORE = [
     ("specs", "crates/kept/specs/*.antt", EVERY, "kept"),
     ("specs", "crates/export/specs/*.antt", of("spectrumRefusal spectrumAfter"), "export"),
     ("specs", "crates/filter/specs/*.antt", of("statusOf"), "filter"),
-    ("specs", "crates/programs/specs/*.antt", of("askedMore askedOf EndsAs"), "programs"),
+    ("specs", "crates/programs/specs/*.antt", of("askedOf EndsAs"), "programs"),
     ("second", "second/model.c", of("C N ROCK SIGMA_AF PERIOD is_short f_mag f_flt f_hng_r f_hng_m f_hng f_sed rock_pga slope intra_squared"), None),
     ("second", "second/[mr]*.h", re.compile(r": #define "), None),
     ("second", "second/main.c", re.compile(r"^(PERIOD_DIGITS|row_of|parse_period|period_before): (?!.*(for \(|digits = 0|return [01];))"), None),

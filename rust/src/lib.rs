@@ -5,14 +5,9 @@
 //! [`std::io::Write`]. Such a list is written as a file by [`pack`], read back by [`unpack`], and its records are
 //! answered one by one by [`records`].
 //!
-//! [`predict_line`], [`measure`] and [`Sheet::Prediction`] show the arbitrary component's sigma. What has the geometric
-//! mean in its name shows the geometric mean's, the total sigma of a row, as those three did before document 02's K9.
-//! The answers look alike: the medians are the same, and nothing in an answer says which sigma stands there. A spectrum
-//! and the row at a period have both.
-//!
 //! For every request that is accepted ln median and each sigma lie within one in the sixth place, one millionth, of
 //! the exact value, and the median within 1 + Y/500000 of the exact Y, counted in its unit of 10^-10: in a spectrum, at
-//! one measure, at one period, with either sigma.
+//! one measure, at one period.
 //!
 //! Each function here calls one proved function of `libexport.a`; `c/xanhupive.h` says what is promised
 //! of each. The slices and references of Rust keep all that it asks of a caller.
@@ -29,15 +24,14 @@ pub const LONGEST_LINE: usize = 115;
 /// Bytes that are enough for any answer of [`complete_line`].
 pub const LONGEST_COMPLETION: usize = 38;
 
-/// Bytes that are enough for any answer of [`predict_line`] and [`predict_line_geometric_mean`].
+/// Bytes that are enough for any answer of [`predict_line`].
 pub const LONGEST_ANSWER: usize = 912;
 
 /// How many measures a spectrum has: the periods from 0.010 to 10.0 s, PGA, PGV, PGD. No median up to 0.25 s is
 /// below PGA's: where its own is lower it is PGA's, with the period's own sigmas.
 pub const MEASURES: usize = 24;
 
-/// How many numbers a row has: ln median, median, and the sigmas intra, inter, total, which is the geometric mean's, and
-/// the arbitrary component's.
+/// How many numbers a row has: ln median, median, and the sigmas intra, inter, total, arbitrary.
 pub const COLUMNS: usize = 6;
 
 /// How many numbers a spectrum has.
@@ -52,15 +46,7 @@ pub const LONGEST_PERIOD: u64 = 10_000;
 extern "C" {
     fn xanhupive_complete_line(line: *const u8, line_length: usize, out: *mut u8, out_length: usize) -> usize;
     fn xanhupive_predict_line(line: *const u8, line_length: usize, out: *mut u8, out_length: usize) -> usize;
-    fn xanhupive_predict_line_geometric_mean(line: *const u8, line_length: usize, out: *mut u8, out_length: usize) -> usize;
-    fn xanhupive_measure(line: *const u8, line_length: usize, measure: u64, median: *mut f64, sigma: *mut f64) -> u32;
-    fn xanhupive_measure_geometric_mean(
-        line: *const u8,
-        line_length: usize,
-        measure: u64,
-        median: *mut f64,
-        total: *mut f64,
-    ) -> u32;
+    fn xanhupive_measure(line: *const u8, line_length: usize, measure: u64, median: *mut f64, total: *mut f64) -> u32;
     fn xanhupive_spectrum(line: *const u8, line_length: usize, rows: *mut f64, rows_length: usize) -> u32;
     fn xanhupive_period(line: *const u8, line_length: usize, period: u64, row: *mut f64, row_length: usize) -> u32;
 }
@@ -73,40 +59,21 @@ pub fn complete_line<'a>(line: &[u8], out: &'a mut [u8]) -> Option<&'a [u8]> {
     (written != 0).then_some(&out[..written])
 }
 
-/// The predicting program's answer, with the arbitrary component's sigma, at the start of `out`; or `None` where it is
-/// longer than `out`, and then no byte of `out` has changed.
+/// The predicting program's answer, at the start of `out`; or `None` where it is longer than `out`, and
+/// then no byte of `out` has changed.
 pub fn predict_line<'a>(line: &[u8], out: &'a mut [u8]) -> Option<&'a [u8]> {
     // SAFETY: the two slices are valid for their lengths and, one of them lent alone, apart.
     let written = unsafe { xanhupive_predict_line(line.as_ptr(), line.len(), out.as_mut_ptr(), out.len()) };
     (written != 0).then_some(&out[..written])
 }
 
-/// What [`predict_line`] gives, with the geometric mean's sigma, the total one, in the place of the arbitrary
-/// component's.
-pub fn predict_line_geometric_mean<'a>(line: &[u8], out: &'a mut [u8]) -> Option<&'a [u8]> {
-    // SAFETY: the two slices are valid for their lengths and, one of them lent alone, apart.
-    let written = unsafe { xanhupive_predict_line_geometric_mean(line.as_ptr(), line.len(), out.as_mut_ptr(), out.len()) };
-    (written != 0).then_some(&out[..written])
-}
-
-/// One measure: the median in 10^-10 of g, cm/s or cm and the arbitrary component's sigma in millionths, both whole
+/// One measure: the median in 10^-10 of g, cm/s or cm and the total sigma in millionths, both whole
 /// numbers; or the refusal's number.
 pub fn measure(line: &[u8], measure: u64) -> Result<(f64, f64), u32> {
     let mut median = 0.0;
-    let mut sigma = 0.0;
-    // SAFETY: the slice is valid for its length, and the two numbers are locals of their own.
-    match unsafe { xanhupive_measure(line.as_ptr(), line.len(), measure, &mut median, &mut sigma) } {
-        0 => Ok((median, sigma)),
-        refusal => Err(refusal),
-    }
-}
-
-/// What [`measure`] gives, with the geometric mean's sigma, the total one, in the place of the arbitrary component's.
-pub fn measure_geometric_mean(line: &[u8], measure: u64) -> Result<(f64, f64), u32> {
-    let mut median = 0.0;
     let mut total = 0.0;
     // SAFETY: the slice is valid for its length, and the two numbers are locals of their own.
-    match unsafe { xanhupive_measure_geometric_mean(line.as_ptr(), line.len(), measure, &mut median, &mut total) } {
+    match unsafe { xanhupive_measure(line.as_ptr(), line.len(), measure, &mut median, &mut total) } {
         0 => Ok((median, total)),
         refusal => Err(refusal),
     }

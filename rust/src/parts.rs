@@ -13,10 +13,8 @@ pub const READER: usize = LONGEST_LINE + 1;
 pub enum Sheet {
     /// The completing program's, without its header.
     Completion = 0,
-    /// The predicting program's, with the arbitrary component's sigma.
+    /// The predicting program's.
     Prediction = 1,
-    /// The predicting program's with its option `--geometric-mean`: with the geometric mean's sigma.
-    PredictionGeometricMean = 2,
 }
 
 extern "C" {

@@ -37,15 +37,6 @@ pub(crate) const MARK: u8 = 0xa5;
 
 pub(crate) type Answer = for<'a> fn(&[u8], &'a mut [u8]) -> Option<&'a [u8]>;
 
-type Measure = fn(&[u8], u64) -> Result<(f64, f64), u32>;
-
-/// The sigmas that are shown, the arbitrary component's and the geometric mean's: by which functions, and where a row has
-/// it.
-const SIGMAS: [(Answer, Measure, usize); 2] = [
-    (predict_line, measure, 5),
-    (predict_line_geometric_mean, measure_geometric_mean, 4),
-];
-
 pub(crate) fn answered(answer: Answer, line: &[u8]) -> Vec<u8> {
     answer(line, &mut [MARK; LONGEST_ANSWER])
         .expect("the longest answer fits")
@@ -90,9 +81,7 @@ fn the_longest_distance() {
     assert_eq!(answered(complete_line, LONGEST_DISTANCE), b"ok 90 10000 3000 13602 2000 emmmm\n");
     assert!(spectrum(LONGEST_DISTANCE).is_ok());
     assert_eq!(answered(complete_line, TOO_FAR), b"no 18\n");
-    for (predict, ..) in SIGMAS {
-        assert_eq!(answered(predict, TOO_FAR), b"no 18\n");
-    }
+    assert_eq!(answered(predict_line, TOO_FAR), b"no 18\n");
 }
 
 /// Measured or inferred, the letters say which and the numbers are the same.
@@ -101,9 +90,7 @@ fn an_inferred_figure_changes_no_number() {
     let line = b"~650 ~0 ~760 - ~10000 - 3000 ~4000 30 - - - ~2000";
     assert_eq!(answered(complete_line, line), b"ok 90 10000 3000 5000 2000 eimei\n");
     assert_eq!(spectrum(line), spectrum(GOOD));
-    for (_, measure, _) in SIGMAS {
-        assert_eq!(measure(line, PGA), measure(GOOD, PGA));
-    }
+    assert_eq!(measure(line, PGA), measure(GOOD, PGA));
     assert_eq!(period(line, 370), period(GOOD, 370));
     assert_eq!(spectrum(b"650 0 ~- - 10000 - 3000 4000 30 - - - 2000"), Err(14));
 }
@@ -122,20 +109,16 @@ fn the_longest_line() {
 
 #[test]
 fn predicts_the_rows_of_the_spectrum() {
-    for (predict, _, sigma) in SIGMAS {
-        for line in [GOOD, SOFT] {
-            let text = String::from_utf8(answered(predict, line)).expect("ASCII");
-            let rows = spectrum(line).expect("accepted");
-            let lines: Vec<String> = rows
-                .iter()
-                .enumerate()
-                .map(|(k, row)| format!("{k} {} {} {}\n", row[0], row[1], row[sigma]))
-                .collect();
-            assert_eq!(text, lines.concat());
-        }
-        assert_eq!(answered(predict, TOO_LARGE), b"no 2\n");
-        assert_eq!(answered(predict, ABOVE), b"no 10\n");
-    }
+    let text = String::from_utf8(answered(predict_line, GOOD)).expect("ASCII");
+    let rows = spectrum(GOOD).expect("accepted");
+    let lines: Vec<String> = rows
+        .iter()
+        .enumerate()
+        .map(|(k, row)| format!("{k} {} {} {}\n", row[0], row[1], row[4]))
+        .collect();
+    assert_eq!(text, lines.concat());
+    assert_eq!(answered(predict_line, TOO_LARGE), b"no 2\n");
+    assert_eq!(answered(predict_line, ABOVE), b"no 10\n");
 }
 
 #[test]
@@ -143,10 +126,7 @@ fn a_measure_is_that_of_the_spectrum() {
     for line in [GOOD, SOFT] {
         let rows = spectrum(line).expect("accepted");
         for (k, row) in rows.iter().enumerate() {
-            for (_, measure, sigma) in SIGMAS {
-                assert_eq!(measure(line, k as u64), Ok((row[1], row[sigma])));
-            }
-            assert!(row[5] > row[4], "the arbitrary component's sigma is the larger");
+            assert_eq!(measure(line, k as u64), Ok((row[1], row[4])));
             assert!(row.iter().all(|number| number.fract() == 0.0));
         }
     }
@@ -170,13 +150,11 @@ fn short_periods_are_not_below_pga() {
 /// What the published equations give for the peak acceleration of document 01's line.
 #[test]
 fn the_peak_acceleration() {
+    let (median, total) = measure(GOOD, PGA).expect("accepted");
     let ln = spectrum(GOOD).expect("accepted")[PGA as usize][0];
     assert!((ln - -1021505.0).abs() <= 5.0);
-    for (measure, near) in [(measure as Measure, 545354.0), (measure_geometric_mean, 519476.0)] {
-        let (median, sigma) = measure(GOOD, PGA).expect("accepted");
-        assert!((sigma - near).abs() <= 5.0);
-        assert!(((median / 1e10).ln() * 1e6 - ln).abs() <= 5.0);
-    }
+    assert!((total - 519476.0).abs() <= 5.0);
+    assert!(((median / 1e10).ln() * 1e6 - ln).abs() <= 5.0);
 }
 
 #[test]
@@ -228,29 +206,23 @@ fn the_valves_spring() {
 fn refusals_in_their_order() {
     for line in MALFORMED {
         assert_eq!(answered(complete_line, line), b"no 14\n");
-        for (predict, measure, _) in SIGMAS {
-            assert_eq!(answered(predict, line), b"no 14\n");
-            assert_eq!(measure(line, 24), Err(14));
-        }
+        assert_eq!(answered(predict_line, line), b"no 14\n");
+        assert_eq!(measure(line, 24), Err(14));
         assert_eq!(spectrum_into(line, &mut []), Err(14));
         assert_eq!(period(line, 370), Err(14));
         assert!(NO_PERIODS.iter().all(|&at| period(line, at) == Err(14)));
     }
     for (line, refusal) in [(TOO_LARGE, 2), (ABOVE, 10), (TOO_FAR, 18)] {
-        for (_, measure, _) in SIGMAS {
-            assert_eq!(measure(line, PGA), Err(refusal));
-            assert_eq!(measure(line, 24), Err(refusal));
-        }
+        assert_eq!(measure(line, PGA), Err(refusal));
+        assert_eq!(measure(line, 24), Err(refusal));
         assert_eq!(spectrum(line), Err(refusal));
         assert_eq!(spectrum_into(line, &mut []), Err(refusal));
         assert_eq!(period(line, 370), Err(refusal));
         assert!(NO_PERIODS.iter().all(|&at| period(line, at) == Err(refusal)));
     }
-    for (_, measure, _) in SIGMAS {
-        assert!(measure(GOOD, 23).is_ok());
-        assert_eq!(measure(GOOD, 24), Err(15));
-        assert_eq!(measure(GOOD, u64::MAX), Err(15));
-    }
+    assert!(measure(GOOD, 23).is_ok());
+    assert_eq!(measure(GOOD, 24), Err(15));
+    assert_eq!(measure(GOOD, u64::MAX), Err(15));
     assert_eq!(spectrum_into(GOOD, &mut []), Err(16));
     assert!(period(GOOD, SHORTEST_PERIOD).is_ok() && period(GOOD, LONGEST_PERIOD).is_ok());
     assert!(NO_PERIODS.iter().all(|&at| period(GOOD, at) == Err(17)));
@@ -258,28 +230,23 @@ fn refusals_in_their_order() {
 
 #[test]
 fn lines_in_every_length() {
-    for answer in [complete_line as Answer, predict_line, predict_line_geometric_mean] {
+    for answer in [complete_line as Answer, predict_line] {
         for line in [GOOD, TOO_LARGE, ABOVE, b""] {
             every_length(answer, line);
         }
     }
 }
 
-/// A function of C that gives one measure.
-type Lent = unsafe extern "C" fn(*const u8, usize, u64, *mut f64, *mut f64) -> u32;
-
 #[test]
 fn a_refused_measure_changes_nothing() {
     for (line, number) in [(GOOD, 24), (ABOVE, PGA), (&b""[..], PGA)] {
-        for measure in [xanhupive_measure as Lent, xanhupive_measure_geometric_mean] {
-            let mut median = f64::from_bits(0x7ff8_0000_0000_abcd);
-            let mut sigma = -0.0;
-            // SAFETY: as in the function that calls it.
-            let refusal = unsafe { measure(line.as_ptr(), line.len(), number, &mut median, &mut sigma) };
-            assert_ne!(refusal, 0);
-            assert_eq!(median.to_bits(), 0x7ff8_0000_0000_abcd);
-            assert_eq!(sigma.to_bits(), (-0.0f64).to_bits());
-        }
+        let mut median = f64::from_bits(0x7ff8_0000_0000_abcd);
+        let mut total = -0.0;
+        // SAFETY: as in `measure`.
+        let refusal = unsafe { xanhupive_measure(line.as_ptr(), line.len(), number, &mut median, &mut total) };
+        assert_ne!(refusal, 0);
+        assert_eq!(median.to_bits(), 0x7ff8_0000_0000_abcd);
+        assert_eq!(total.to_bits(), (-0.0f64).to_bits());
     }
 }
 

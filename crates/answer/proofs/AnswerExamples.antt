@@ -4,7 +4,6 @@ use lib.IntN.{negsuc}
 use Rattle.numerals.specs.Plain.{is_digit}
 use Rattle.text.specs.Grammar.{digits_of, unsigned_of, plain, signed_of, as_word, field_of, space_at, in_front, fields_of, request_of, to_line}
 use Rattle.numerals.specs.Render.{ascii, digits_in, render, render_signed}
-use Rattle.model.specs.declared.Component.TheVariants as W
 use Rattle.answer.specs.declared.Sheet.TheVariants as S
 use Rattle.answer.specs.RowLines.{row_line}
 use Rattle.answer.specs.Sheets.{answer_to}
@@ -14,7 +13,7 @@ listing :
     × (answer_to S.Completion (ascii "851 0 760 - 10000 - 3000 4000 30 - - - 2000") ≡ ascii "no 2\n")
     × (answer_to S.Completion (ascii "650 90 300 40 10000 - 3000 0 90 - - - 2000") ≡ ascii "no 10\n")
     × (answer_to S.Completion (ascii "") ≡ ascii "no 14\n")
-    × (answer_to (S.Prediction W.Arbitrary) (ascii "") ≡ ascii "no 14\n")
+    × (answer_to S.Prediction (ascii "") ≡ ascii "no 14\n")
 unfolding answer_to ascii to_line fields_of space_at in_front field_of as_word signed_of plain unsigned_of digits_of is_digit request_of render digits_in
 listing = (refl, refl, refl, refl, refl)
 

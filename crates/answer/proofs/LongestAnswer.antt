@@ -18,12 +18,10 @@ use Rattle.outcome.proofs.ExactlyWhen.{stages, number_is, number_most}
 use Rattle.outcome.proofs.Ranges.{source_range, source_given_lem, top_range}
 use Rattle.outcome.proofs.SentBackWhole.{rrup-high, site_rows_lem}
 use Rattle.tables.specs.Tables.{measures}
-use Rattle.model.specs.declared.Component.{Component}
 use Rattle.model.specs.declared.Shown.{Shown}
 use Rattle.model.specs.Rows.{shown_of, no_shown}
 use Rattle.between.specs.Periods.{covered}
 use Rattle.between.specs.Fixed.{row_at}
-use Rattle.prediction.specs.declared.shown.ShownSpectrum.{ShownSpectrum}
 use Rattle.prediction.specs.Spectra.{scenario_of, shown_spectrum_of}
 use Rattle.prediction.specs.Sizes.{ShownSmall}
 use Rattle.prediction.proofs.DemandThree.{shown_small, shown_rows_small, shown_number, number_handed_on}
@@ -99,40 +97,36 @@ rows_short rows b (suc n) h =
       row_short n (get_or rows n no_shown) (omega arith) (b n (omega arith)),
     )
 
-module _ (w : Component) (r : Request) where
-  abbrev s : ShownSpectrum
-  s = shown_spectrum_of w r
+spectrum_short : (r : Request) → length (spectrum_lines (shown_spectrum_of r)) ≤ longest_answer S.Prediction
+spectrum_short r = go (eqb (shown_spectrum_of r).refusal 0) refl
+  where
+    go : (t : Bool) → eqb (shown_spectrum_of r).refusal 0 ≡ t → length (spectrum_lines (shown_spectrum_of r)) ≤ longest_answer S.Prediction
+    go true e =
+        omega (
+          arith,
+          ap length (good-lines (shown_spectrum_of r) (eqb-true (shown_spectrum_of r).refusal 0 e)),
+          rows_short (shown_spectrum_of r).rows (shown_rows_small r) measures (omega arith),
+        )
+    go false e =
+        omega (
+          arith,
+          ap length (refused-line (shown_spectrum_of r) (eqb-false (shown_spectrum_of r).refusal 0 e)),
+          no_short (shown_spectrum_of r).refusal (omega (arith, shown_number r, number_handed_on r, number_is r, number_most r)),
+        )
 
-  spectrum_short : length (spectrum_lines s) ≤ longest_answer (S.Prediction w)
-  spectrum_short = go (eqb s.refusal 0) refl
-    where
-      go : (t : Bool) → eqb s.refusal 0 ≡ t → length (spectrum_lines s) ≤ longest_answer (S.Prediction w)
-      go true e =
-          omega (
-            arith,
-            ap length (good-lines s (eqb-true s.refusal 0 e)),
-            rows_short s.rows (shown_rows_small w r) measures (omega arith),
-          )
-      go false e =
-          omega (
-            arith,
-            ap length (refused-line s (eqb-false s.refusal 0 e)),
-            no_short s.refusal (omega (arith, shown_number w r, number_handed_on r, number_is r, number_most r)),
-          )
-
-period_short : (w : Component) (r : Request) (t : ℕ) → length (period_line w t (period_of r t)) ≤ longest_period
+period_short : (r : Request) (t : ℕ) → length (period_line t (period_of r t)) ≤ longest_period
 unfolding period_line
-period_short w r t =
+period_short r t =
     by_completion r (λ c e. by_test c e (covered t) refl) (λ n e. rw (period_refused r n t e) (short_number n (refused_number r n e)))
   where
     short_number : (n : ℕ) → n ≤ 99 → length (no_line n) ≤ longest_period
     short_number n h = omega (arith, no_short n h)
 
-    by_test : (c : Request) → completion_of r ≡ C.Done c → (b : Bool) → covered t ≡ b → length (period_line w t (period_of r t)) ≤ longest_period
+    by_test : (c : Request) → completion_of r ≡ C.Done c → (b : Bool) → covered t ≡ b → length (period_line t (period_of r t)) ≤ longest_period
     by_test c e true h =
-        let row = row_at t (scenario_of c) in
         let v = period_row r c t e h in
-        rw v (shown_short 4 t (shown_of w row) (omega (arith, covered-high t h)) (shown_small w row (value-small r t row v)))
+        rw v
+        (shown_short 4 t (shown_of (row_at t (scenario_of c))) (omega (arith, covered-high t h)) (shown_small (row_at t (scenario_of c)) (value-small r t (row_at t (scenario_of c)) v)))
     by_test c e false h = rw (period_none r c t e h) (short_number No.no_period (omega arith))
 
 -- ---- the answers
@@ -140,10 +134,10 @@ reply_short : (sheet : Sheet) (l : Line) → length (reply_of sheet l) ≤ longe
 unfolding reply_of sheet_of
 reply_short S.Completion (L.Is r) = completion_short r
 reply_short S.Completion L.Malformed = no_short No.malformed (omega arith)
-reply_short (S.Prediction w) (L.Is r) = spectrum_short w r
-reply_short (S.Prediction w) L.Malformed = omega (arith, no_short No.malformed (omega arith))
-reply_short (S.Period w t) (L.Is r) = period_short w r t
-reply_short (S.Period w t) L.Malformed = omega (arith, no_short No.malformed (omega arith))
+reply_short S.Prediction (L.Is r) = spectrum_short r
+reply_short S.Prediction L.Malformed = omega (arith, no_short No.malformed (omega arith))
+reply_short (S.Period t) (L.Is r) = period_short r t
+reply_short (S.Period t) L.Malformed = omega (arith, no_short No.malformed (omega arith))
 
 pub answer-short : (sheet : Sheet) (s : List ℕ) → length (answer_to sheet s) ≤ longest_answer sheet
 unfolding answer_to

@@ -10,7 +10,6 @@ use lib.Dec.{ltb}
 use lib.ListN.{length, get_or, length-append}
 use Rattle.tables.specs.Tables.{measures}
 use Rattle.model.specs.declared.Row.{Row}
-use Rattle.model.specs.declared.Component.{Component}
 use Rattle.model.specs.declared.Shown.{Shown}
 use Rattle.model.specs.Rows.{shown_of, no_shown}
 use Rattle.prediction.specs.declared.shown.ShownSpectrum.{ShownSpectrum}
@@ -72,11 +71,10 @@ module _ (s : ShownSpectrum) where
   good-lines h = rw (eq-eqb s.refusal 0 h)
 
 -- ---- the line of a period
-module _ (w : Component) (t : ℕ) where
-  pub period_value : (row : Row) → period_line w t (P.Value row) ≡ row_line t (shown_of w row)
-  unfolding period_line
-  period_value row = refl
+pub period_value : (t : ℕ) (w : Row) → period_line t (P.Value w) ≡ row_line t (shown_of w)
+unfolding period_line
+period_value t w = refl
 
-  pub period_number : (n : ℕ) → period_line w t (P.Refused n) ≡ no_line n
-  unfolding period_line
-  period_number n = refl
+pub period_number : (t n : ℕ) → period_line t (P.Refused n) ≡ no_line n
+unfolding period_line
+period_number t n = refl

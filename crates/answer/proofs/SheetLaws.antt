@@ -5,7 +5,6 @@ use mathlib.Core.List.{List}
 use Rattle.refusals.specs.Order as No
 use Rattle.request.specs.declared.Request.{Request}
 use Rattle.outcome.specs.Answers.{completion_of}
-use Rattle.model.specs.declared.Component.{Component}
 use Rattle.prediction.specs.Spectra.{shown_spectrum_of}
 use Rattle.one_period.specs.OnePeriods.{period_of}
 use Rattle.text.specs.declared.read.Line.TheVariants as L
@@ -22,13 +21,13 @@ module _ (r : Request) where
   unfolding sheet_of
   completion_lines = refl
 
-  pub prediction_lines : (w : Component) → sheet_of (S.Prediction w) r ≡ spectrum_lines (shown_spectrum_of w r)
+  pub prediction_lines : sheet_of S.Prediction r ≡ spectrum_lines (shown_spectrum_of r)
   unfolding sheet_of
-  prediction_lines w = refl
+  prediction_lines = refl
 
-  pub period_lines : (w : Component) (t : ℕ) → sheet_of (S.Period w t) r ≡ period_line w t (period_of r t)
+  pub period_lines : (t : ℕ) → sheet_of (S.Period t) r ≡ period_line t (period_of r t)
   unfolding sheet_of
-  period_lines w t = refl
+  period_lines t = refl
 
 -- ---- a line
 module _ (sheet : Sheet) (s : List ℕ) where

@@ -12,7 +12,6 @@ use Rattle.outcome.specs.declared.Completion.{Completion}
 use Rattle.outcome.specs.declared.Completion.TheVariants as C
 use Rattle.outcome.specs.Answers.{completion_of}
 use Rattle.tables.specs.Tables.{measures}
-use Rattle.model.specs.declared.Component.{Component}
 use Rattle.model.specs.declared.Shown.{Shown}
 use Rattle.model.specs.Rows.{shown_of, no_shown}
 use Rattle.prediction.specs.declared.shown.ShownSpectrum.{ShownSpectrum}
@@ -48,19 +47,19 @@ some_spectrum s = go (eqb s.refusal 0) refl
     go true e = omega (arith, ap length (good-lines s (eqb-true s.refusal 0 e)), some-rows s.rows)
     go false e = omega (arith, ap length (refused-line s (eqb-false s.refusal 0 e)), length_no s.refusal)
 
-some_period : (w : Component) (t : ℕ) (a : OnePeriod) → 0 < length (period_line w t a)
+some_period : (t : ℕ) (a : OnePeriod) → 0 < length (period_line t a)
 unfolding period_line
-some_period w t (P.Value row) = omega (arith, length_row t (shown_of w row))
-some_period w t (P.Refused n) = omega (arith, length_no n)
+some_period t (P.Value w) = omega (arith, length_row t (shown_of w))
+some_period t (P.Refused n) = omega (arith, length_no n)
 
 some_reply : (sheet : Sheet) (l : Line) → 0 < length (reply_of sheet l)
 unfolding reply_of sheet_of
 some_reply S.Completion (L.Is r) = some_completion (completion_of r)
-some_reply (S.Prediction w) (L.Is r) = some_spectrum (shown_spectrum_of w r)
-some_reply (S.Period w t) (L.Is r) = some_period w t (period_of r t)
+some_reply S.Prediction (L.Is r) = some_spectrum (shown_spectrum_of r)
+some_reply (S.Period t) (L.Is r) = some_period t (period_of r t)
 some_reply S.Completion L.Malformed = omega (arith, length_no No.malformed)
-some_reply (S.Prediction w) L.Malformed = omega (arith, length_no No.malformed)
-some_reply (S.Period w t) L.Malformed = omega (arith, length_no No.malformed)
+some_reply S.Prediction L.Malformed = omega (arith, length_no No.malformed)
+some_reply (S.Period t) L.Malformed = omega (arith, length_no No.malformed)
 
 pub some-answer : (sheet : Sheet) (s : List ℕ) → 0 < length (answer_to sheet s)
 unfolding answer_to

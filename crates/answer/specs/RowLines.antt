@@ -1,9 +1,7 @@
 -- The answer lines of the predicting program: 24 for an accepted request, "measure number, ln median, median and total sigma as the
--- reported whole numbers, single spaces, no header", the sigma by 02's K9 that of the component that is wanted; for one period a line, the
--- period in the measure's place. Definitions only.
+-- reported whole numbers, single spaces, no header"; for one period a line, the period in the measure's place. Definitions only.
 use Rattle.std.specs.Prelude.{ℕ, zero, suc, cond, List, [], ◌∷◌, ◌++◌, eqb, get_or}
 use Rattle.tables.specs.Tables.{measures}
-use Rattle.model.specs.declared.Component.{Component}
 use Rattle.model.specs.declared.Shown.{Shown}
 use Rattle.model.specs.Rows.{shown_of, no_shown}
 use Rattle.prediction.specs.declared.shown.ShownSpectrum.{ShownSpectrum}
@@ -29,7 +27,7 @@ unfolding row_lines no_line
 spectrum_lines s = cond (eqb s.refusal 0) (row_lines measures s.rows) (no_line s.refusal)
 
 -- the line of period t, or that of its refusal
-unfoldable pub period_line : Component → ℕ → OnePeriod → List ℕ
+unfoldable pub period_line : ℕ → OnePeriod → List ℕ
 unfolding row_line shown_of no_line
-period_line w t (P.Value row) = row_line t (shown_of w row)
-period_line w t (P.Refused n) = no_line n
+period_line t (P.Value w) = row_line t (shown_of w)
+period_line t (P.Refused n) = no_line n

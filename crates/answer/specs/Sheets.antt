@@ -17,8 +17,8 @@ use Rattle.answer.specs.RowLines.{spectrum_lines, period_line}
 unfoldable pub sheet_of : Sheet → Request → List ℕ
 unfolding completion_line completion_of spectrum_lines period_line
 sheet_of S.Completion r = completion_line (completion_of r)
-sheet_of (S.Prediction w) r = spectrum_lines (shown_spectrum_of w r)
-sheet_of (S.Period w t) r = period_line w t (period_of r t)
+sheet_of S.Prediction r = spectrum_lines (shown_spectrum_of r)
+sheet_of (S.Period t) r = period_line t (period_of r t)
 
 -- a malformed line is refused
 unfoldable pub reply_of : Sheet → Line → List ℕ
@@ -42,5 +42,5 @@ longest_period = 41
 -- and so no answer
 abbrev pub longest_answer : Sheet → ℕ
 longest_answer S.Completion = longest_line
-longest_answer (S.Prediction w) = measures * longest_line
-longest_answer (S.Period w t) = longest_period
+longest_answer S.Prediction = measures * longest_line
+longest_answer (S.Period t) = longest_period

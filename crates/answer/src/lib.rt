@@ -9,7 +9,6 @@ ghost use Rattle.answer.specs.Sheets.{sheet_of, answer_to};
 use completion::complete;
 use lent::Wrote;
 use lines::{write_completion, write_no};
-use model::Component;
 use one_period::predict_period;
 pub use period::write_period;
 use prediction::predict_shown;
@@ -19,12 +18,12 @@ pub use rows::write_spectrum;
 use text::{Line, read_line};
 
 // Which answers are asked for: the completed figures, the rows of the measures, or the row at a period in
-// thousandths of a second; beside a row's, the component whose sigma is wanted.
+// thousandths of a second.
 #[derive(Drop)]
 pub enum Sheet {
     Completion,
-    Prediction(Component),
-    Period(Component, u64),
+    Prediction,
+    Period(u64),
 }
 
 // The answer to a request. Its only refusal is TOO_LONG, and then no byte of `out` has changed.
@@ -33,8 +32,8 @@ pub fn answer_request(sheet: Sheet, r: Request, out: &mut [u8]) -> Wrote
 {
     match sheet {
         Sheet::Completion => write_completion(out, complete(r)),
-        Sheet::Prediction(wanted) => write_spectrum(out, predict_shown(wanted, r)),
-        Sheet::Period(wanted, t) => write_period(out, wanted, t, predict_period(r, t)),
+        Sheet::Prediction => write_spectrum(out, predict_shown(r)),
+        Sheet::Period(t) => write_period(out, t, predict_period(r, t)),
     }
 }
 

@@ -81,7 +81,9 @@ module _ (S n L : ℕ) (h_s : 0 < S) (h_l : 0 < L) (L-le : 4 * L ≤ 3 * S) (top
       (omega (arith, add-mul (suc (x / L)) 1 L, suc-mul (x / L) L, lt-div-mul-add {a = x} {b = L} h_l)) in
       let r : (x + L) % L ≡ x % L =
       omega (arith, div-add-mod' (x + L) L, div-add-mod' x L, ap (λ (t : ℕ). t * L) q, suc-mul (x / L) L) in
-      rw (q, r, pow-succ' 2 (x / L)) (mul_assoc 2 (2 ^ (x / L)) (exp_series S (suc n) (x % L)))
+      ap₂ (λ (a b : ℕ). 2 ^ a * exp_series S (suc n) b) q r
+      ∙ ap (λ (a : ℕ). a * exp_series S (suc n) (x % L)) (pow-succ' 2 (x / L))
+      ∙ mul_assoc 2 (2 ^ (x / L)) (exp_series S (suc n) (x % L))
 
   -- so multiples put in and powers of two taken out cancel
   offset_same : (j N Y : ℕ) → exp_from S (suc n) L (Y + j * L) / 2 ^ (N + j) ≡ exp_from S (suc n) L Y / 2 ^ N
@@ -112,7 +114,9 @@ module _ (S n L : ℕ) (h_s : 0 < S) (h_l : 0 < L) (L-le : 4 * L ≤ 3 * S) (top
   -- what is below L has no multiple of it
   rest : (x : ℕ) → x < L → exp_from S (suc n) L x ≡ exp_series S (suc n) x
   unfolding exp_from
-  rest x h = rw (div-eq_of_lt h, mod-eq_of_lt h) (one-mul (exp_series S (suc n) x))
+  rest x h =
+      ap₂ (λ (a b : ℕ). 2 ^ a * exp_series S (suc n) b) (div-eq_of_lt h) (mod-eq_of_lt h)
+      ∙ one-mul (exp_series S (suc n) x)
 
   -- the exponential of x, by any N multiples of L put in that make it a number y from 0 up
   pub exp_whole_offset : (x : ℤ) (N y : ℕ) → up x + N * L ≡ dn x + y → exp_whole S (suc n) L x ≡ exp_from S (suc n) L y / 2 ^ N

@@ -9,14 +9,12 @@ mod spectrum;
 
 ghost use Rattle.refusals.specs.Order as No;
 ghost use Rattle.text.specs.Grammar.{line_of};
-ghost use Rattle.model.specs.declared.Component.TheVariants as W;
 ghost use Rattle.answer.specs.declared.Sheet.TheVariants as S;
 ghost use Rattle.answer.specs.Sheets.{answer_to};
 ghost use Rattle.export.specs.Given.{LineGiven, SpectrumGiven, spectrum_or};
 
 use answer::{Sheet, answer_line};
 use lent::count_of;
-use model::Component;
 use refusals::MALFORMED;
 use spectrum::spectrum_or;
 use text::read_line;
@@ -30,21 +28,13 @@ pub extern "C" fn xanhupive_complete_line(line: &[u8], out: &mut [u8]) -> usize
     count_of(answer_line(Sheet::Completion, line, out))
 }
 
-// The predicting program's answer to a line without its LF, with the arbitrary component's sigma: how many
-// bytes it has at the start of `out`, or 0 where it is longer, and then no byte has changed.
+// The predicting program's answer to a line without its LF: how many bytes it has at the start of
+// `out`, or 0 where it is longer, and then no byte has changed.
 #[unsafe(no_mangle)]
 pub extern "C" fn xanhupive_predict_line(line: &[u8], out: &mut [u8]) -> usize
-    ensures { LineGiven out.old (answer_to (S.Prediction W.Arbitrary) line.now) result out.new }
+    ensures { LineGiven out.old (answer_to S.Prediction line.now) result out.new }
 {
-    count_of(answer_line(Sheet::Prediction(Component::Arbitrary), line, out))
-}
-
-// The same with the geometric mean's sigma.
-#[unsafe(no_mangle)]
-pub extern "C" fn xanhupive_predict_line_geometric_mean(line: &[u8], out: &mut [u8]) -> usize
-    ensures { LineGiven out.old (answer_to (S.Prediction W.GeometricMean) line.now) result out.new }
-{
-    count_of(answer_line(Sheet::Prediction(Component::GeometricMean), line, out))
+    count_of(answer_line(Sheet::Prediction, line, out))
 }
 
 // The rows of a line without its LF, six numbers a row, at the start of `rows`: 0, or the refusal's

@@ -10,8 +10,8 @@ use Rattle.lists.specs.Whole.{answers_to}
 unfoldable pub header_of : Sheet → List ℕ
 unfolding ascii
 header_of S.Completion = ascii "dip W ZTOR RRUP Z25 from" ++ (lf ∷ [])
-header_of (S.Prediction w) = []
-header_of (S.Period w t) = []
+header_of S.Prediction = []
+header_of (S.Period t) = []
 
 -- the whole output: the header, then the answers
 unfoldable pub output_to : Sheet → List ℕ → List ℕ

@@ -177,8 +177,8 @@ fn status_of(state: State) -> u32
 fn begin(sheet: Sheet) -> bool {
     match sheet {
         Sheet::Completion => put_header(sheet, b"dip W ZTOR RRUP Z25 from\n"),
-        Sheet::Prediction(_) => put_header(sheet, b""),
-        Sheet::Period(_, _) => put_header(sheet, b""),
+        Sheet::Prediction => put_header(sheet, b""),
+        Sheet::Period(_) => put_header(sheet, b""),
     }
 }
 

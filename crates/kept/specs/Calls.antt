@@ -3,7 +3,6 @@
 use Rattle.std.specs.Prelude.{ℕ, ◌≡◌, cond, List, [], ◌++◌, eqb, ltb, length, take, drop}
 use Rattle.refusals.specs.Order as No
 use Rattle.lent.specs.Lent.{put, after}
-use Rattle.model.specs.declared.Component.TheVariants as W
 use Rattle.answer.specs.declared.Sheet.{Sheet}
 use Rattle.answer.specs.declared.Sheet.TheVariants as S
 use Rattle.lists.specs.declared.Taken.{Taken}
@@ -18,9 +17,7 @@ misuse = 255
 
 -- the sheet of a number
 unfoldable pub numbered : ℕ → Asked
-numbered n =
-    cond (eqb n 0) (A.Sheet S.Completion)
-    (cond (eqb n 1) (A.Sheet (S.Prediction W.Arbitrary)) (cond (eqb n 2) (A.Sheet (S.Prediction W.GeometricMean)) A.None))
+numbered n = cond (eqb n 0) (A.Sheet S.Completion) (cond (eqb n 1) (A.Sheet S.Prediction) A.None)
 
 -- what is lent to a call: the reader's bytes, those for answers, and the numbers of bytes taken and written
 pub record Loan : Type 0 where

@@ -6,7 +6,6 @@ ghost use Rattle.kept.specs.Calls.{loan, numbered, begin_told, part_told, close_
 use crate::{READER, put_reader, reader_in};
 use answer::Sheet;
 use lists::{close_list, new_reader, take_part};
-use model::Component;
 
 // The number of a call that is wrong in itself, which is no refusal.
 pub const MISUSE: u32 = 255;
@@ -18,7 +17,7 @@ pub enum Asked {
     None,
 }
 
-// The sheet of a number: 1 with the arbitrary component's sigma, 2 with the geometric mean's.
+// The sheet of a number.
 pub fn sheet_numbered(n: u64) -> Asked
     ensures { result ≡ numbered n }
 {
@@ -26,10 +25,7 @@ pub fn sheet_numbered(n: u64) -> Asked
         return Asked::Sheet(Sheet::Completion);
     }
     if n == 1 {
-        return Asked::Sheet(Sheet::Prediction(Component::Arbitrary));
-    }
-    if n == 2 {
-        return Asked::Sheet(Sheet::Prediction(Component::GeometricMean));
+        return Asked::Sheet(Sheet::Prediction);
     }
     Asked::None
 }

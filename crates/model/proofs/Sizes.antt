@@ -21,7 +21,7 @@ use Rattle.model.proofs.Fair.{Fair}
 use Rattle.model.specs.Fixed.{f_mag_fixed, ln_distance, f_dis_fixed, f_flt_fixed, wall_distance_fixed, f_hng_r_fixed, wall_fixed, f_hng_fixed, deep_fixed, f_sed_fixed, f_site_fixed, sigma_of, curve_fixed, alpha_fixed, site_c_fixed, at_base_fixed}
 use Rattle.model.specs.Equations.{by_magnitude, slope, f_flt_z, most, linear, least}
 use Rattle.model.proofs.Between.{near_between, between_ln}
-use Rattle.exact.proofs.Root.{side-lt, root_is, root_mono}
+use Rattle.exact.proofs.Root.{side-lt, root_is}
 use Rattle.model.proofs.WallNear.{others-le, most_by}
 use Rattle.model.proofs.Ends.{distance_between, f_flt_z-le}
 use Rattle.model.proofs.TermsNear.{slope-size, ln_distance-near}
@@ -257,11 +257,6 @@ sigma_size v h =
     let t : ℕ = root (4000 * v) in
     let small : t < 3099000 = side-lt t 3099000 (omega (arith, (root_is (4000 * v)).low)) in
     omega arith
-
--- of two variances the larger has no smaller sigma
-pub sigma_mono : (a b : ℕ) → a ≤ b → sigma_of a ≤ sigma_of b
-unfolding sigma_of
-sigma_mono a b h = omega (arith, root_mono (4000 * a) (4000 * b) (omega arith))
 
 -- alpha sigma_lnAB
 pub y_fits : (a : ℤ) → nat_abs a ≤ 2671000367 → nat_abs (mul_div (pos (at_base_fixed (deviations_at PGA).s)) a (pos E9)) ≤ 995000000

@@ -5,8 +5,6 @@ use Rattle.exact.specs.Near.{NearZ}
 use Rattle.model.specs.declared.Scenario.{Scenario}
 use Rattle.model.specs.declared.Row.{Row}
 use Rattle.model.specs.declared.Shown.{Shown}
-use Rattle.model.specs.declared.Component.{Component}
-use Rattle.model.specs.declared.Component.TheVariants as W
 use Rattle.model.specs.Equations.{E24, E20, ln_median, median, intra, inter, total, arbitrary}
 
 -- the ranges of an accepted request's completed figures
@@ -72,13 +70,8 @@ pub record Accurate (e : Exact) (r : Row) : Type 0 where
   pub total-near : NearSixth (pos r.total) (pos e.total)
   pub arbitrary-near : NearSixth (pos r.arbitrary) (pos e.arbitrary)
 
--- the exact sigma of a component
-unfoldable pub exact_sigma : Component → Exact → ℕ
-exact_sigma W.Arbitrary e = e.arbitrary
-exact_sigma W.GeometricMean e = e.total
-
 -- what a sheet shows of it
-pub record ShownAccurate (w : Component) (e : Exact) (s : Shown) : Type 0 where
+pub record ShownAccurate (e : Exact) (s : Shown) : Type 0 where
   pub ln_near : NearSixth s.ln e.ln
   pub median-near : NearMedian s.median e.median
-  pub sigma_near : NearSixth (pos s.sigma) (pos (exact_sigma w e))
+  pub sigma_near : NearSixth (pos s.sigma) (pos e.total)

@@ -40,14 +40,6 @@ pub struct Row {
     pub arbitrary: u64,
 }
 
-// Which horizontal component's sigma is wanted: that of one direction, which nobody knows beforehand, or
-// that of the geometric mean of two.
-#[derive(Drop)]
-pub enum Component {
-    Arbitrary,
-    GeometricMean,
-}
-
 // What a sheet shows of a row: one sigma beside ln median and the median.
 #[derive(Drop)]
 pub struct Shown {

@@ -14,7 +14,6 @@ use Rattle.outcome.specs.declared.Completion.TheVariants as C
 use Rattle.outcome.specs.Answers.{completion_of, number_of}
 use Rattle.outcome.proofs.ExactlyWhen.{number_is, accepted_by}
 use Rattle.outcome.proofs.OneAnswer.{one_answer}
-use Rattle.model.specs.declared.Component.{Component}
 use Rattle.model.specs.Fixed.{row_fixed}
 use Rattle.model.specs.Rows.{shown_of}
 use Rattle.text.specs.declared.read.Line.{Line}
@@ -31,11 +30,11 @@ use Rattle.one_measure.specs.OneMeasures.{measure_answer, MeasureGiven}
 module _ (y s : Float) where
   value-given : (m t : Float) → MeasureGiven (M.Value m t) 0 y m s t
   unfolding refusal_in median_in sigma_in
-  value-given m t = record { refusal = refl; median = refl; sigma = refl }
+  value-given m t = record { refusal = refl; median = refl; total = refl }
 
   refusal-given : (n : ℕ) → MeasureGiven (M.Refused n) n y y s s
   unfolding refusal_in median_in sigma_in
-  refusal-given n = record { refusal = refl; median = refl; sigma = refl }
+  refusal-given n = record { refusal = refl; median = refl; total = refl }
 
   module _ (a : OneMeasure) where
     pub measure_given : (m t : Float) → a ≡ M.Value m t → MeasureGiven a 0 y m s t
@@ -48,7 +47,7 @@ module _ (y s : Float) where
 pub one_measure :
     {a : OneMeasure} {m n : ℕ} {y s y₁ y₂ s₁ s₂ : Float} → MeasureGiven a m y y₁ s s₁ → MeasureGiven a n y y₂ s s₂
     → (m ≡ n) × (y₁ ≡ y₂) × (s₁ ≡ s₂)
-one_measure v w = (one_answer v.refusal w.refusal, one_answer v.median w.median, one_answer v.sigma w.sigma)
+one_measure v w = (one_answer v.refusal w.refusal, one_answer v.median w.median, one_answer v.total w.total)
 
 -- ---- 0 stands for no refusal
 same_number : (m n : ℕ) → M.Refused m ≡ M.Refused n → m ≡ n
@@ -61,21 +60,21 @@ never_0 r e =
     let z : ◌≡◌ {A = ℕ} 0 1 = cc in
     omega arith
 
-request_not_0 : (w : Component) (r : Request) (k : ℕ) → measure_of w r k ≡ M.Refused 0 → ⊥
-request_not_0 w r k h = by_completion r done refused
+request_not_0 : (r : Request) (k : ℕ) → measure_of r k ≡ M.Refused 0 → ⊥
+request_not_0 r k h = by_completion r done refused
   where
     by_number : (c : Request) → completion_of r ≡ C.Done c → (t : Bool) → ltb k measures ≡ t → ⊥
-    by_number c e false u = omega (arith, same_number No.no_measure 0 (sym (measure_none w r c k e (ltb-false k measures u)) ∙ h))
+    by_number c e false u = omega (arith, same_number No.no_measure 0 (sym (measure_none r c k e (ltb-false k measures u)) ∙ h))
     by_number c e true u =
-        no_value (shown_of w (row_fixed k (scenario_of c))) 0 (sym (measure_fixed w r c k e (ltb-true k measures u)) ∙ h)
+        no_value (shown_of (row_fixed k (scenario_of c))) 0 (sym (measure_fixed r c k e (ltb-true k measures u)) ∙ h)
 
     done : (c : Request) → completion_of r ≡ C.Done c → ⊥
     done c e = by_number c e (ltb k measures) refl
 
     refused : (n : ℕ) → completion_of r ≡ C.Refused n → ⊥
-    refused n e = never_0 r (e ∙ ap C.Refused (same_number n 0 (sym (P.measure_refused w r n k e) ∙ h)))
+    refused n e = never_0 r (e ∙ ap C.Refused (same_number n 0 (sym (P.measure_refused r n k e) ∙ h)))
 
-pub not_0 : (w : Component) (l : Line) (k : ℕ) → measure_answer w l k ≡ M.Refused 0 → ⊥
+pub not_0 : (l : Line) (k : ℕ) → measure_answer l k ≡ M.Refused 0 → ⊥
 unfolding measure_answer
-not_0 w (L.Is r) k h = request_not_0 w r k h
-not_0 w L.Malformed k h = omega (arith, same_number No.malformed 0 h)
+not_0 (L.Is r) k h = request_not_0 r k h
+not_0 L.Malformed k h = omega (arith, same_number No.malformed 0 h)

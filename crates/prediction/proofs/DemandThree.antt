@@ -1,25 +1,22 @@
 -- Demand 3 for a request: every row of an accepted request's spectrum is as near the exact values as `Accurate` says, and so is what a
 -- sheet shows of it; a refused one has its number and zeros in all 24 rows. So no spectrum given always, no row copied and no row left zero passes. Assumes
 -- nothing.
-use Prim.Native.Nat.{ℕ, ◌*◌, ◌≤◌, ◌<◌}
+use Prim.Native.Nat.{ℕ, ◌*◌, ◌<◌}
 use mathlib.Core.Path.{◌≡◌, refl, sym, ap, subst}
-use lib.IntN.{pos}
 use lib.ListN.{length, get_or, length-replicate, get_or-replicate}
 use Rattle.request.specs.declared.Request.{Request}
 use Rattle.outcome.specs.declared.Completion.TheVariants as C
 use Rattle.outcome.specs.Answers.{completion_of, number_of}
 use Rattle.model.specs.declared.Row.{Row}
-use Rattle.model.specs.declared.Component.{Component}
-use Rattle.model.specs.declared.Component.TheVariants as W
-use Rattle.model.specs.Rows.{sigma_for, shown_of, no_row, no_shown}
-use Rattle.model.specs.Accuracy.{Exact, exact_of, exact_sigma, NearSixth, Accurate, ShownAccurate}
+use Rattle.model.specs.Rows.{shown_of, no_row, no_shown}
+use Rattle.model.specs.Accuracy.{Exact, exact_of, Accurate, ShownAccurate}
 use Rattle.model.specs.Equations.{E24}
 use Rattle.model.proofs.Demand.{demand_3, inter_exact}
 use Rattle.prediction.specs.declared.Spectrum.{Spectrum}
 use Rattle.prediction.specs.Spectra.{scenario_of, refused_with, spectrum_for, spectrum_of, shown_spectrum, shown_spectrum_of}
 use Rattle.prediction.specs.Sizes.{Small, ShownSmall}
 use Rattle.prediction.proofs.Completed.{in_range}
-use Rattle.prediction.proofs.RowLaws.{rows-length, row_is, row_small, zeros-small, spectrum_done, spectrum_refused, shown_row, by_completion}
+use Rattle.prediction.proofs.RowLaws.{rows-length, row_is, row_small, zeros_small, spectrum_done, spectrum_refused, shown_row, by_completion}
 
 -- ---- accepted
 pub accepted-rows :
@@ -58,43 +55,30 @@ twenty_four r =
 pub rows-small : (r : Request) (k : ℕ) → k < 24 → Small (get_or (spectrum_of r).rows k no_row)
 rows-small r k h =
     by_completion r (λ c e. rw (spectrum_done r c e) (row_small (scenario_of c) k h (in_range r c e)))
-    (λ n e. subst Small (sym (refused-rows r n k e h)) zeros-small)
+    (λ n e. subst Small (sym (refused-rows r n k e h)) zeros_small)
 
 -- ---- what is shown of it
--- the sigma of a component is as near as the row
-sigma_near_for : (w : Component) (e : Exact) (r : Row) → Accurate e r → NearSixth (pos (sigma_for w r)) (pos (exact_sigma w e))
-unfolding sigma_for exact_sigma
-sigma_near_for W.Arbitrary e r a = a.arbitrary-near
-sigma_near_for W.GeometricMean e r a = a.total-near
+pub shown_number : (r : Request) → (shown_spectrum_of r).refusal ≡ (spectrum_of r).refusal
+unfolding shown_spectrum_of shown_spectrum
+shown_number r = refl
 
-sigma_small : (w : Component) (r : Row) → Small r → sigma_for w r ≤ 1550000
-unfolding sigma_for
-sigma_small W.Arbitrary r s = s.arbitrary
-sigma_small W.GeometricMean r s = s.total
+pub shown_at : (r : Request) (k : ℕ) → get_or (shown_spectrum_of r).rows k no_shown ≡ shown_of (get_or (spectrum_of r).rows k no_row)
+unfolding shown_spectrum_of shown_spectrum
+shown_at r k = shown_row (spectrum_of r).rows k
 
-module _ (w : Component) where
-  pub shown_number : (r : Request) → (shown_spectrum_of w r).refusal ≡ (spectrum_of r).refusal
-  unfolding shown_spectrum_of shown_spectrum
-  shown_number r = refl
+-- as near as the rows
+pub shown_near : (e : Exact) (r : Row) → Accurate e r → ShownAccurate e (shown_of r)
+unfolding shown_of
+shown_near e r a = record { ln_near = a.ln_near; median-near = a.median-near; sigma_near = a.total-near }
 
-  pub shown_at : (r : Request) (k : ℕ) → get_or (shown_spectrum_of w r).rows k no_shown ≡ shown_of w (get_or (spectrum_of r).rows k no_row)
-  unfolding shown_spectrum_of shown_spectrum
-  shown_at r k = shown_row w (spectrum_of r).rows k
+pub accepted_shown :
+    (r : Request) (c : Request) (k : ℕ) → completion_of r ≡ C.Done c → k < 24
+    → ShownAccurate (exact_of k (scenario_of c)) (get_or (shown_spectrum_of r).rows k no_shown)
+accepted_shown r c k e h = rw (shown_at r k) (shown_near (exact_of k (scenario_of c)) (get_or (spectrum_of r).rows k no_row) (accepted-rows r c k e h))
 
-  -- as near as the rows
-  pub shown_near : (e : Exact) (r : Row) → Accurate e r → ShownAccurate w e (shown_of w r)
-  unfolding shown_of
-  shown_near e r a = record { ln_near = a.ln_near; median-near = a.median-near; sigma_near = sigma_near_for w e r a }
+pub shown_small : (r : Row) → Small r → ShownSmall (shown_of r)
+unfolding shown_of
+shown_small r s = record { ln = s.ln; median = s.median; sigma = s.total }
 
-  pub accepted_shown :
-      (r : Request) (c : Request) (k : ℕ) → completion_of r ≡ C.Done c → k < 24
-      → ShownAccurate w (exact_of k (scenario_of c)) (get_or (shown_spectrum_of w r).rows k no_shown)
-  accepted_shown r c k e h =
-      rw (shown_at r k) (shown_near (exact_of k (scenario_of c)) (get_or (spectrum_of r).rows k no_row) (accepted-rows r c k e h))
-
-  pub shown_small : (r : Row) → Small r → ShownSmall (shown_of w r)
-  unfolding shown_of
-  shown_small r s = record { ln = s.ln; median = s.median; sigma = sigma_small w r s }
-
-  pub shown_rows_small : (r : Request) (k : ℕ) → k < 24 → ShownSmall (get_or (shown_spectrum_of w r).rows k no_shown)
-  shown_rows_small r k h = subst ShownSmall (sym (shown_at r k)) (shown_small (get_or (spectrum_of r).rows k no_row) (rows-small r k h))
+pub shown_rows_small : (r : Request) (k : ℕ) → k < 24 → ShownSmall (get_or (shown_spectrum_of r).rows k no_shown)
+shown_rows_small r k h = subst ShownSmall (sym (shown_at r k)) (shown_small (get_or (spectrum_of r).rows k no_row) (rows-small r k h))

@@ -75,6 +75,6 @@ pub nothing_lost :
 nothing_lost r k h = rw (float_at r k h) (row_same (get_or (spectrum_of r).rows k no_row) (rows-small r k h))
 
 -- of a refused request, zeros
-pub refused-zeros : (r : Request) (n k : ℕ) → completion_of r ≡ C.Refused n → k < 24 → Same (get_or (float_spectrum_of r).rows k no_floats) no_row
-refused-zeros r n k e h =
+pub refused_zeros : (r : Request) (n k : ℕ) → completion_of r ≡ C.Refused n → k < 24 → Same (get_or (float_spectrum_of r).rows k no_floats) no_row
+refused_zeros r n k e h =
     subst (λ (w : Row). Same (get_or (float_spectrum_of r).rows k no_floats) w) (refused-rows r n k e h) (nothing_lost r k h)

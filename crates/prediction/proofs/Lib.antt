@@ -4,6 +4,5 @@ pub mod DemandThree
 pub mod ShortPeriods
 pub mod FloatLaws
 pub mod MeasureLaws
-pub mod Components
 pub mod OneAnswer
 pub mod Origins

@@ -2,7 +2,6 @@
 use Prim.Native.Nat.{ℕ}
 use mathlib.Core.Path.{◌≡◌}
 use Rattle.request.specs.declared.Request.{Request}
-use Rattle.model.specs.declared.Component.{Component}
 use Rattle.outcome.proofs.OneAnswer.{one_answer}
 use Rattle.prediction.specs.declared.Spectrum.{Spectrum}
 use Rattle.prediction.specs.declared.shown.ShownSpectrum.{ShownSpectrum}
@@ -15,11 +14,11 @@ use Rattle.prediction.specs.Measures.{measure_of}
 pub one_spectrum : (r : Request) (a b : Spectrum) → a ≡ spectrum_of r → b ≡ spectrum_of r → a ≡ b
 one_spectrum r a b p q = one_answer p q
 
-pub one_shown_spectrum : (w : Component) (r : Request) (a b : ShownSpectrum) → a ≡ shown_spectrum_of w r → b ≡ shown_spectrum_of w r → a ≡ b
-one_shown_spectrum w r a b p q = one_answer p q
+pub one_shown_spectrum : (r : Request) (a b : ShownSpectrum) → a ≡ shown_spectrum_of r → b ≡ shown_spectrum_of r → a ≡ b
+one_shown_spectrum r a b p q = one_answer p q
 
 pub one_float_spectrum : (r : Request) (a b : FloatSpectrum) → a ≡ float_spectrum_of r → b ≡ float_spectrum_of r → a ≡ b
 one_float_spectrum r a b p q = one_answer p q
 
-pub one_measure : (w : Component) (r : Request) (k : ℕ) (a b : OneMeasure) → a ≡ measure_of w r k → b ≡ measure_of w r k → a ≡ b
-one_measure w r k a b p q = one_answer p q
+pub one_measure : (r : Request) (k : ℕ) (a b : OneMeasure) → a ≡ measure_of r k → b ≡ measure_of r k → a ≡ b
+one_measure r k a b p q = one_answer p q

@@ -17,7 +17,6 @@ use Rattle.outcome.proofs.Origins.{origins_unread}
 use Rattle.outcome.proofs.SentBackWhole.{sent_back_unread}
 use Rattle.tables.specs.Tables.{measures}
 use Rattle.model.specs.declared.Scenario.{Scenario}
-use Rattle.model.specs.declared.Component.{Component}
 use Rattle.model.specs.Fixed.{row_fixed}
 use Rattle.model.specs.Rows.{shown_of}
 use Rattle.prediction.specs.declared.measure.OneMeasure.TheVariants as M
@@ -67,29 +66,28 @@ pub spectrum_alike : (r s : Request) → forget r ≡ forget s → spectrum_of r
 unfolding spectrum_of
 spectrum_alike = origins_unread spectrum_for spectrum_forgets
 
-pub shown_alike : (w : Component) (r s : Request) → forget r ≡ forget s → shown_spectrum_of w r ≡ shown_spectrum_of w s
+pub shown_alike : (r s : Request) → forget r ≡ forget s → shown_spectrum_of r ≡ shown_spectrum_of s
 unfolding shown_spectrum_of
-shown_alike w r s e = ap (shown_spectrum w) (spectrum_alike r s e)
+shown_alike r s e = ap shown_spectrum (spectrum_alike r s e)
 
 pub spectrum_back : (r : Request) → completion_of r ≡ C.Done (completed r) → spectrum_of (sent_back r) ≡ spectrum_of r
 unfolding spectrum_of
 spectrum_back = sent_back_unread spectrum_for (λ c. spectrum_same (each as_inferred c) c (scenario_back c))
 
 -- ---- one measure
-module _ (w : Component) (k : ℕ) where
-  measure_same : (c d : Request) → scenario_of c ≡ scenario_of d → measure_for w (C.Done c) k ≡ measure_for w (C.Done d) k
-  unfolding measure_for
-  measure_same c d e = ap (λ (x : Scenario). cond (ltb k measures) (shown_value (shown_of w (row_fixed k x))) (M.Refused No.no_measure)) e
+measure_same : (k : ℕ) (c d : Request) → scenario_of c ≡ scenario_of d → measure_for (C.Done c) k ≡ measure_for (C.Done d) k
+unfolding measure_for
+measure_same k c d e = ap (λ (x : Scenario). cond (ltb k measures) (shown_value (shown_of (row_fixed k x))) (M.Refused No.no_measure)) e
 
-  measure_forgets : (c : Completion) → measure_for w (forgotten c) k ≡ measure_for w c k
-  unfolding forgotten
-  measure_forgets (C.Done c) = measure_same (forget c) c (scenario_alike c)
-  measure_forgets (C.Refused n) = refl
+measure_forgets : (k : ℕ) (c : Completion) → measure_for (forgotten c) k ≡ measure_for c k
+unfolding forgotten
+measure_forgets k (C.Done c) = measure_same k (forget c) c (scenario_alike c)
+measure_forgets k (C.Refused n) = refl
 
-  pub measure_alike : (r s : Request) → forget r ≡ forget s → measure_of w r k ≡ measure_of w s k
-  unfolding measure_of
-  measure_alike = origins_unread (λ c. measure_for w c k) measure_forgets
+pub measure_alike : (k : ℕ) (r s : Request) → forget r ≡ forget s → measure_of r k ≡ measure_of s k
+unfolding measure_of
+measure_alike k = origins_unread (λ c. measure_for c k) (measure_forgets k)
 
-  pub measure_back : (r : Request) → completion_of r ≡ C.Done (completed r) → measure_of w (sent_back r) k ≡ measure_of w r k
-  unfolding measure_of
-  measure_back = sent_back_unread (λ c. measure_for w c k) (λ c. measure_same (each as_inferred c) c (scenario_back c))
+pub measure_back : (k : ℕ) (r : Request) → completion_of r ≡ C.Done (completed r) → measure_of (sent_back r) k ≡ measure_of r k
+unfolding measure_of
+measure_back k = sent_back_unread (λ c. measure_for c k) (λ c. measure_same k (each as_inferred c) c (scenario_back c))

@@ -14,11 +14,9 @@ use Rattle.outcome.specs.Answers.{completion_of, number_of}
 use Rattle.model.specs.declared.Scenario.{Scenario}
 use Rattle.model.specs.declared.Fine.{Fine}
 use Rattle.model.specs.declared.Row.{Row}
-use Rattle.model.specs.declared.Component.{Component}
-use Rattle.model.specs.declared.Component.TheVariants as W
 use Rattle.model.specs.declared.Shown.{Shown}
 use Rattle.model.specs.Fixed.{fine_fixed, report, row_fixed, FineInRange}
-use Rattle.model.specs.Rows.{sigma_for, shown_of, no_row, no_shown}
+use Rattle.model.specs.Rows.{shown_of, no_row, no_shown}
 use Rattle.model.specs.Accuracy.{InRange, Exact, exact_of}
 use Rattle.model.specs.FineNear.{FineNear}
 use Rattle.model.proofs.Reported.{report-fits}
@@ -87,23 +85,17 @@ pub refused_by :
 refused_by r a m n p q h = sym p ∙ q ∙ ap C.Refused (sym (h ∙ ap number_of q))
 
 -- ---- what is shown
--- zeros of either component
-pub shown_zeros : (w : Component) → shown_of w no_row ≡ no_shown
-unfolding shown_of sigma_for
-shown_zeros W.Arbitrary = refl
-shown_zeros W.GeometricMean = refl
+pub shown_row : (rows : List Row) (k : ℕ) → get_or (map shown_of rows) k no_shown ≡ shown_of (get_or rows k no_row)
+unfolding shown_of
+shown_row rows k = get_or-map shown_of rows k no_row
 
-module _ (w : Component) where
-  pub shown_row : (rows : List Row) (k : ℕ) → get_or (map (shown_of w) rows) k no_shown ≡ shown_of w (get_or rows k no_row)
-  shown_row rows k = rw (← shown_zeros w) (get_or-map (shown_of w) rows k no_row)
-
-  -- an array that is right at every index is the list
-  pub shown_are :
-      (x : Scenario) (rows : List Shown) → length rows ≡ 24 → ((k : ℕ) → k < 24 → get_or rows k no_shown ≡ shown_of w (row_fixed k x))
-      → rows ≡ map (shown_of w) (rows_of x)
-  shown_are x rows e h =
-      ext_get_or no_shown rows (map (shown_of w) (rows_of x)) (e ∙ sym (length-map (rows_of x) (shown_of w) ∙ rows-length x))
-      (λ i l. let k : i < 24 = omega (arith, e) in h i k ∙ ap (shown_of w) (sym (row_is x i k)) ∙ sym (shown_row (rows_of x) i))
+-- an array that is right at every index is the list
+pub shown_are :
+    (x : Scenario) (rows : List Shown) → length rows ≡ 24 → ((k : ℕ) → k < 24 → get_or rows k no_shown ≡ shown_of (row_fixed k x))
+    → rows ≡ map shown_of (rows_of x)
+shown_are x rows e h =
+    ext_get_or no_shown rows (map shown_of (rows_of x)) (e ∙ sym (length-map (rows_of x) shown_of ∙ rows-length x))
+    (λ i l. let k : i < 24 = omega (arith, e) in h i k ∙ ap shown_of (sym (row_is x i k)) ∙ sym (shown_row (rows_of x) i))
 
 -- ---- how large
 pub report-small : (e : Exact) (f : Fine) → FineNear e f → FineInRange f → Small (report f)
@@ -122,8 +114,8 @@ pub fixed_small : (i : ℕ) (x : Scenario) → i < 24 → InRange x → Small (r
 unfolding row_fixed
 fixed_small i x h r = report-small (exact_of i x) (fine_fixed i x) (fine-near i x h r) (fine_in_range i x h r)
 
-pub zeros-small : Small no_row
-zeros-small =
+pub zeros_small : Small no_row
+zeros_small =
     record { ln = lit≤ tt; median = lit≤ tt; intra = lit≤ tt; inter = lit≤ tt; total = lit≤ tt; arbitrary = lit≤ tt }
 
 pub row_small : (x : Scenario) (k : ℕ) → k < 24 → InRange x → Small (get_or (rows_of x) k no_row)

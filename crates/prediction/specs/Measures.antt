@@ -6,9 +6,8 @@ use Rattle.outcome.specs.declared.Completion.{Completion}
 use Rattle.outcome.specs.declared.Completion.TheVariants as C
 use Rattle.outcome.specs.Answers.{completion_of}
 use Rattle.tables.specs.Tables.{measures}
-use Rattle.model.specs.declared.Component.{Component}
 use Rattle.model.specs.declared.Shown.{Shown}
-use Rattle.model.specs.Accuracy.{Exact, exact_sigma, NearSixth, NearMedian}
+use Rattle.model.specs.Accuracy.{Exact, NearSixth, NearMedian}
 use Rattle.model.specs.Fixed.{row_fixed}
 use Rattle.model.specs.Rows.{shown_of}
 use Rattle.prediction.specs.declared.measure.OneMeasure.{OneMeasure}
@@ -21,14 +20,14 @@ unfoldable pub shown_value : Shown → OneMeasure
 shown_value s = M.Value (float (pos s.median)) (float (pos s.sigma))
 
 -- by the completion's case; the measure's number is tested after all that is tested of the request
-unfoldable pub measure_for : Component → Completion → ℕ → OneMeasure
+unfoldable pub measure_for : Completion → ℕ → OneMeasure
 unfolding shown_value shown_of row_fixed scenario_of
-measure_for w (C.Done c) k = cond (ltb k measures) (shown_value (shown_of w (row_fixed k (scenario_of c)))) (M.Refused No.no_measure)
-measure_for w (C.Refused n) k = M.Refused n
+measure_for (C.Done c) k = cond (ltb k measures) (shown_value (shown_of (row_fixed k (scenario_of c)))) (M.Refused No.no_measure)
+measure_for (C.Refused n) k = M.Refused n
 
-unfoldable pub measure_of : Component → Request → ℕ → OneMeasure
+unfoldable pub measure_of : Request → ℕ → OneMeasure
 unfolding measure_for completion_of
-measure_of w r k = measure_for w (completion_of r) k
+measure_of r k = measure_for (completion_of r) k
 
 -- ---- what an answer says
 -- the refusal's number, 0 for none
@@ -51,7 +50,7 @@ pub data Tells (s : Shown) : OneMeasure → Type 0 where
   told : {y z : Float} → Is y (pos s.median) → Is z (pos s.sigma) → Tells s (M.Value y z)
 
 -- it is a median and a sigma that are whole numbers as near the exact values as demand 3 asks
-pub data MeasureNear (w : Component) (e : Exact) : OneMeasure → Type 0 where
+pub data MeasureNear (e : Exact) : OneMeasure → Type 0 where
   measure_near :
-      {y z : Float} (m s : ℕ) → Is y (pos m) → Is z (pos s) → NearMedian m e.median → NearSixth (pos s) (pos (exact_sigma w e))
-      → MeasureNear w e (M.Value y z)
+      {y z : Float} (m s : ℕ) → Is y (pos m) → Is z (pos s) → NearMedian m e.median → NearSixth (pos s) (pos e.total)
+      → MeasureNear e (M.Value y z)

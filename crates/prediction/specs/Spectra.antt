@@ -8,7 +8,6 @@ use Rattle.outcome.specs.declared.Completion.TheVariants as C
 use Rattle.outcome.specs.Answers.{completion_of}
 use Rattle.model.specs.declared.Scenario.{Scenario}
 use Rattle.model.specs.declared.Row.{Row}
-use Rattle.model.specs.declared.Component.{Component}
 use Rattle.tables.specs.Tables.{measures}
 use Rattle.model.specs.Fixed.{row_fixed}
 use Rattle.model.specs.Rows.{shown_of, no_row}
@@ -54,11 +53,11 @@ unfoldable pub spectrum_of : Request → Spectrum
 unfolding spectrum_for completion_of
 spectrum_of r = spectrum_for (completion_of r)
 
--- what a sheet shows of a spectrum, with the sigma of the component that is wanted
-unfoldable pub shown_spectrum : Component → Spectrum → ShownSpectrum
+-- what a sheet shows of a spectrum
+unfoldable pub shown_spectrum : Spectrum → ShownSpectrum
 unfolding shown_of
-shown_spectrum w s = record { refusal = s.refusal; rows = map (shown_of w) s.rows }
+shown_spectrum s = record { refusal = s.refusal; rows = map shown_of s.rows }
 
-unfoldable pub shown_spectrum_of : Component → Request → ShownSpectrum
+unfoldable pub shown_spectrum_of : Request → ShownSpectrum
 unfolding shown_spectrum spectrum_of
-shown_spectrum_of w r = shown_spectrum w (spectrum_of r)
+shown_spectrum_of r = shown_spectrum (spectrum_of r)

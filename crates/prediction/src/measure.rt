@@ -5,7 +5,6 @@ ghost use Rattle.prediction.specs.Measures.{measure_of};
 use crate::floats::of_nat;
 use crate::scenario_of;
 use completion::{Completion, complete, number_of};
-use model::Component;
 use refusals::NO_MEASURE;
 use reports::shown_at;
 use request::Request;
@@ -18,10 +17,9 @@ pub enum OneMeasure {
     Refused(u32),
 }
 
-// Predicts one measure of any request, with the sigma of the component that is wanted. It asks for
-// nothing: the measure may be any number.
-pub fn predict_measure(wanted: Component, r: Request, measure: u64) -> OneMeasure
-    ensures { result ≡ measure_of wanted r measure }
+// Predicts one measure of any request. It asks for nothing: the measure may be any number.
+pub fn predict_measure(r: Request, measure: u64) -> OneMeasure
+    ensures { result ≡ measure_of r measure }
 {
     let c = complete(r);
     let Completion::Done(f) = c else {
@@ -31,7 +29,7 @@ pub fn predict_measure(wanted: Component, r: Request, measure: u64) -> OneMeasur
         return OneMeasure::Refused(NO_MEASURE);
     }
     let x = scenario_of(f);
-    let row = shown_at(wanted, measure as usize, x);
+    let row = shown_at(measure as usize, x);
     let median = row.median;
     let sigma = row.sigma;
     OneMeasure::Value(of_nat(median), of_nat(sigma))

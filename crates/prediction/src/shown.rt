@@ -1,11 +1,10 @@
 // The spectrum as a sheet shows it: one sigma a measure, so that one root is taken for it.
 ghost use Rattle.std.specs.Prelude.{◌≡◌};
-ghost use Rattle.model.specs.declared.Component.{Component};
 ghost use Rattle.prediction.specs.Spectra.{refused_with, shown_spectrum, shown_spectrum_of};
 
 use crate::scenario_of;
 use completion::{Completion, complete, number_of};
-use model::{Component, Shown};
+use model::Shown;
 use reports::shown_rows_of;
 use request::Request;
 use tables::MEASURES;
@@ -19,7 +18,7 @@ pub struct ShownSpectrum {
 
 // Zeros beside a refusal's number.
 fn refused_shown(n: u32) -> ShownSpectrum
-    ensures { (w : Component) → result ≡ shown_spectrum w (refused_with n) }
+    ensures { result ≡ shown_spectrum (refused_with n) }
 {
     let none = Shown {
         ln: 0,
@@ -33,16 +32,16 @@ fn refused_shown(n: u32) -> ShownSpectrum
     }
 }
 
-// Predicts what is shown of all measures of any request, with the sigma of the component that is wanted.
-pub fn predict_shown(wanted: Component, r: Request) -> ShownSpectrum
-    ensures { result ≡ shown_spectrum_of wanted r }
+// Predicts what is shown of all measures of any request.
+pub fn predict_shown(r: Request) -> ShownSpectrum
+    ensures { result ≡ shown_spectrum_of r }
 {
     let c = complete(r);
     let Completion::Done(f) = c else {
         return refused_shown(number_of(c));
     };
     let x = scenario_of(f);
-    let shown = shown_rows_of(wanted, x);
+    let shown = shown_rows_of(x);
     ShownSpectrum {
         refusal: 0,
         rows: shown,

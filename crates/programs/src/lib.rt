@@ -2,10 +2,9 @@
 mod texts;
 
 ghost use Rattle.std.specs.Prelude.{◌≤◌, ◌≡◌};
-ghost use Rattle.programs.specs.Arguments.{word_of, argument_of, sheet_of, asked_alone, is_mean, asked_period, asked_both, asked_of, EndsAs};
+ghost use Rattle.programs.specs.Arguments.{word_of, sheet_of, asked_alone, period_asked, asked_with, asked_of, EndsAs};
 
 use answer::Sheet;
-use model::Component;
 use numerals::{Plain, plain_number};
 
 // Which program it is.
@@ -20,15 +19,7 @@ enum Program {
 enum Word {
     Help,
     Period,
-    GeometricMean,
     Unknown,
-}
-
-// An argument, read as a word and as a number.
-#[derive(Drop)]
-struct Argument {
-    word: Word,
-    number: Plain,
 }
 
 // What the arguments ask for. Misused: nothing that the program does.
@@ -49,135 +40,80 @@ fn word_of(s: &[u8]) -> Word
     if check::same(s, b"--period") {
         return Word::Period;
     }
-    if check::same(s, b"--geometric-mean") {
-        return Word::GeometricMean;
-    }
     Word::Unknown
 }
 
-// An argument's bytes, read.
-fn argument_of(s: &[u8]) -> Argument
-    ensures { result ≡ argument_of s.now }
-{
-    Argument {
-        word: word_of(s),
-        number: plain_number(s),
-    }
-}
-
-// The sheet of a program that is asked for nothing else: anchors are loaded by one direction, which nobody
-// knows beforehand, so that its sigma is shown.
+// The sheet of a program that is asked for nothing else.
 fn sheet_of(program: Program) -> Sheet
     ensures { result ≡ sheet_of program }
 {
     match program {
         Program::Complete => Sheet::Completion,
-        Program::Predict => Sheet::Prediction(Component::Arbitrary),
+        Program::Predict => Sheet::Prediction,
     }
 }
 
 // What one argument alone asks for.
-fn asked_alone(program: Program, word: Word) -> Asked
-    ensures { result ≡ asked_alone program word }
+fn asked_alone(word: Word) -> Asked
+    ensures { result ≡ asked_alone word }
 {
     match word {
         Word::Help => Asked::Help,
-        Word::GeometricMean => match program {
-            Program::Complete => Asked::Misused,
-            Program::Predict => Asked::List(Sheet::Prediction(Component::GeometricMean)),
-        },
         Word::Period => Asked::Misused,
         Word::Unknown => Asked::Misused,
     }
 }
 
-// Whether a word asks for the geometric mean's sigma.
-fn is_mean(word: Word) -> bool
-    ensures { result ≡ is_mean word }
+// What a number behind the word for a period asks for.
+fn period_asked(number: Plain) -> Asked
+    ensures { result ≡ period_asked number }
 {
-    match word {
-        Word::Help => false,
-        Word::Period => false,
-        Word::GeometricMean => true,
-        Word::Unknown => false,
+    match number {
+        Plain::Number(t) => Asked::List(Sheet::Period(t)),
+        Plain::Other => Asked::Misused,
     }
 }
 
-// What the word for a period and a number ask for.
-fn asked_period(wanted: Component, first: Argument, second: Argument) -> Asked
-    ensures { result ≡ asked_period wanted first.word second.number }
+// What two arguments ask for: the predicting program's row at a period.
+fn asked_with(program: Program, word: Word, number: Plain) -> Asked
+    ensures { result ≡ asked_with program word number }
 {
-    let word = first.word;
-    let number = second.number;
-    match word {
-        Word::Help => Asked::Misused,
-        Word::Period => match number {
-            Plain::Number(t) => Asked::List(Sheet::Period(wanted, t)),
-            Plain::Other => Asked::Misused,
+    match program {
+        Program::Complete => Asked::Misused,
+        Program::Predict => match word {
+            Word::Help => Asked::Misused,
+            Word::Period => period_asked(number),
+            Word::Unknown => Asked::Misused,
         },
-        Word::GeometricMean => Asked::Misused,
-        Word::Unknown => Asked::Misused,
     }
 }
 
-// What three arguments ask for: the geometric mean's sigma before a period or behind it.
-fn asked_both(first: Argument, second: Argument, third: Argument) -> Asked
-    ensures { result ≡ asked_both first second third }
-{
-    let before = first.word;
-    if is_mean(before) {
-        return asked_period(Component::GeometricMean, second, third);
-    }
-    let behind = third.word;
-    if is_mean(behind) {
-        return asked_period(Component::GeometricMean, first, second);
-    }
-    Asked::Misused
-}
-
-// What is asked of a program by so many arguments, its own name counted, of which these three follow it.
-fn asked_of(
-    program: Program,
-    count: usize,
-    first: Argument,
-    second: Argument,
-    third: Argument,
-) -> Asked
-    ensures { result ≡ asked_of program count first second third }
+// What is asked of a program by so many arguments, its own name counted, of which these two follow it.
+fn asked_of(program: Program, count: usize, first: Word, second: Plain) -> Asked
+    ensures { result ≡ asked_of program count first second }
 {
     if count < 2 {
         return Asked::List(sheet_of(program));
     }
     if count < 3 {
-        let word = first.word;
-        return asked_alone(program, word);
+        return asked_alone(first);
     }
-    let Program::Predict = program else {
-        return Asked::Misused;
-    };
     if count < 4 {
-        return asked_period(Component::Arbitrary, first, second);
-    }
-    if count < 5 {
-        return asked_both(first, second, third);
+        return asked_with(program, first, second);
     }
     Asked::Misused
 }
 
-// The argument of a number. One that is missing, empty or longer than any word or number that is known has
-// no bytes here.
-fn read_argument(k: usize) -> Argument {
-    let mut bytes = [0u8; 64];
-    let n = os::arg(k, &mut bytes);
-    argument_of(&bytes[..n])
-}
-
-// What the program was asked.
+// What the program was asked. An argument that is missing, empty or longer than any word or number that is
+// known has no bytes here.
 fn read_arguments(program: Program) -> Asked {
-    let first = read_argument(1);
-    let second = read_argument(2);
-    let third = read_argument(3);
-    asked_of(program, os::arg_count(), first, second, third)
+    let mut word = [0u8; 64];
+    let mut number = [0u8; 64];
+    let n = os::arg(1, &mut word);
+    let m = os::arg(2, &mut number);
+    let first = word_of(&word[..n]);
+    let second = plain_number(&number[..m]);
+    asked_of(program, os::arg_count(), first, second)
 }
 
 // Does what is asked of a program, and returns the exit status.

@@ -15,7 +15,7 @@ pub fn put_usage(program: Program) {
         Program::Predict => {
             io::write_all(
                 STDERR_FILENO,
-                b"usage: predict [--geometric-mean] [--period T] < LIST > ANSWERS, or predict --help\n",
+                b"usage: predict [--period T] < LIST > ANSWERS, or predict --help\n",
             );
         }
     }
@@ -48,26 +48,22 @@ fn put_answers_help(program: Program) -> bool {
             estimated; or \"no\" and the number of the refusal.\n",
         ),
         Program::Predict => put_out(
-            b"usage: predict [--geometric-mean] [--period T] < LIST > ANSWERS\n\
+            b"usage: predict [--period T] < LIST > ANSWERS\n\
             \n\
             Reads request lines from standard input and writes to standard output for each\n\
             request that is accepted a line for each of 24 measures: its number, ln median\n\
-            in millionths, the median in 10^-10 of its unit, and a sigma in millionths.\n\
-            Measures 0 to 20 are the spectrum in g at the periods 0.010, 0.020, 0.030,\n\
-            0.050, 0.075, 0.10, 0.15, 0.20, 0.25, 0.30, 0.40, 0.50, 0.75, 1.0, 1.5, 2.0,\n\
-            3.0, 4.0, 5.0, 7.5 and 10.0 s; 21 is PGA in g, 22 PGV in cm/s, 23 PGD in cm. Up\n\
-            to 0.25 s a median that would be below PGA's is PGA's; its sigma stays. A\n\
+            in millionths, the median in 10^-10 of its unit, and the total sigma in\n\
+            millionths. Measures 0 to 20 are the spectrum in g at the periods 0.010, 0.020,\n\
+            0.030, 0.050, 0.075, 0.10, 0.15, 0.20, 0.25, 0.30, 0.40, 0.50, 0.75, 1.0, 1.5,\n\
+            2.0, 3.0, 4.0, 5.0, 7.5 and 10.0 s; 21 is PGA in g, 22 PGV in cm/s, 23 PGD in\n\
+            cm. Up to 0.25 s a median that would be below PGA's is PGA's; its sigma stays. A\n\
             request that is refused gets \"no\" and the number of the refusal.\n\
             \n\
-            Which sigma: the arbitrary component's sigma, that of one horizontal direction,\n\
-            which nobody knows beforehand. With --geometric-mean it is the geometric mean's,\n\
-            the total sigma. Nothing else changes, and the lines look alike.\n\
-            \n\
             With --period T, a period in thousandths of a second from 10 to 10000, one line:\n\
-            T, ln median, the median in 10^-10 of g and the sigma. Between two tabulated\n\
-            periods ln median and sigma lie on the straight line over the logarithm of the\n\
-            period. A request that is accepted gets \"no 17\" where T is any other number.\n\
-            The two options may stand in either order.\n\
+            T, ln median, the median in 10^-10 of g and the total sigma. Between two\n\
+            tabulated periods ln median and sigma lie on the straight line over the\n\
+            logarithm of the period. A request that is accepted gets \"no 17\" where T is any\n\
+            other number.\n\
             \n\
             ln median and sigma lie within one millionth of the exact value, a median of Y\n\
             units within 1 + Y/500000 of them.\n",
@@ -114,11 +110,9 @@ fn put_example(program: Program) -> bool {
         ),
         Program::Predict => put_out(
             b"gets 24 lines, of which that of PGA is\n\
-            \x20 21 -1021505 3600527821 545354\n\
-            and with --geometric-mean\n\
             \x20 21 -1021505 3600527821 519476\n\
             and with --period 370 the line\n\
-            \x20 370 -495903 6090208853 618044\n",
+            \x20 370 -495903 6090208853 583453\n",
         ),
     }
 }

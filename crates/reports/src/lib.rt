@@ -5,10 +5,10 @@ ghost use Rattle.tables.specs.Tables.{measures};
 ghost use Rattle.model.specs.Accuracy.{InRange};
 ghost use Rattle.model.specs.Equations.{most};
 ghost use Rattle.model.specs.Fixed.{report, row_fixed, no_fine, FineInRange};
-ghost use Rattle.model.specs.Rows.{sigma_for, shown_of, no_row, no_shown};
+ghost use Rattle.model.specs.Rows.{shown_of, no_row, no_shown};
 
 use measures::{fine_at, fine_rows_of};
-use model::{Component, Fine, Row, Scenario, Shown};
+use model::{Fine, Row, Scenario, Shown};
 use reckon::{exp_fixed, round_div};
 use sigmas::{arbitrary_of, intra_of, total_of};
 use tables::{MEASURES, deviations_at};
@@ -36,27 +36,16 @@ pub fn report_of(i: usize, f: Fine) -> Row
     }
 }
 
-// The sigma of the component that is wanted, with one root.
-fn sigma_for(wanted: Component, i: usize, f: Fine) -> u64
+// What a sheet shows of it, with one root.
+pub fn shown_of(i: usize, f: Fine) -> Shown
     requires { (i < measures) × FineInRange f }
-    ensures { result ≡ sigma_for wanted (report f) }
+    ensures { result ≡ shown_of (report f) }
 {
     let d = deviations_at(i);
-    match wanted {
-        Component::Arbitrary => arbitrary_of(i, d, f.arbitrary),
-        Component::GeometricMean => total_of(i, d, f.total),
-    }
-}
-
-// What a sheet shows of it.
-pub fn shown_of(wanted: Component, i: usize, f: Fine) -> Shown
-    requires { (i < measures) × FineInRange f }
-    ensures { result ≡ shown_of wanted (report f) }
-{
     Shown {
         ln: round_div(f.ln, 1_000),
         median: at_least_one(exp_fixed(f.ln)),
-        sigma: sigma_for(wanted, i, f),
+        sigma: total_of(i, d, f.total),
     }
 }
 
@@ -69,11 +58,11 @@ pub fn row_at(i: usize, x: Scenario) -> Row
 }
 
 // What a sheet shows of one measure.
-pub fn shown_at(wanted: Component, i: usize, x: Scenario) -> Shown
+pub fn shown_at(i: usize, x: Scenario) -> Shown
     requires { (i < measures) × InRange x }
-    ensures { result ≡ shown_of wanted (row_fixed i x) }
+    ensures { result ≡ shown_of (row_fixed i x) }
 {
-    shown_of(wanted, i, fine_at(i, x))
+    shown_of(i, fine_at(i, x))
 }
 
 // All rows, each with all its figures.
@@ -100,9 +89,9 @@ fn reports_of(fine: [Fine; MEASURES]) -> [Row; MEASURES]
 }
 
 // What a sheet shows of all rows.
-fn all_shown_of(wanted: Component, fine: [Fine; MEASURES]) -> [Shown; MEASURES]
+fn all_shown_of(fine: [Fine; MEASURES]) -> [Shown; MEASURES]
     requires { (k : ℕ) → k < measures → FineInRange (get_or fine k no_fine) }
-    ensures { (length result ≡ measures) × ((k : ℕ) → k < measures → get_or result k no_shown ≡ shown_of wanted (report (get_or fine k no_fine))) }
+    ensures { (length result ≡ measures) × ((k : ℕ) → k < measures → get_or result k no_shown ≡ shown_of (report (get_or fine k no_fine))) }
 {
     let none = Shown {
         ln: 0,
@@ -113,7 +102,7 @@ fn all_shown_of(wanted: Component, fine: [Fine; MEASURES]) -> [Shown; MEASURES]
     let mut i = 0usize;
     while i < MEASURES {
         let row = fine[i];
-        rows[i] = shown_of(wanted, i, row);
+        rows[i] = shown_of(i, row);
         i += 1;
     }
     rows
@@ -128,9 +117,9 @@ pub fn rows_of(x: Scenario) -> [Row; MEASURES]
 }
 
 // What a sheet shows of them.
-pub fn shown_rows_of(wanted: Component, x: Scenario) -> [Shown; MEASURES]
+pub fn shown_rows_of(x: Scenario) -> [Shown; MEASURES]
     requires { InRange x }
-    ensures { (length result ≡ measures) × ((k : ℕ) → k < measures → get_or result k no_shown ≡ shown_of wanted (row_fixed k x)) }
+    ensures { (length result ≡ measures) × ((k : ℕ) → k < measures → get_or result k no_shown ≡ shown_of (row_fixed k x)) }
 {
-    all_shown_of(wanted, fine_rows_of(x))
+    all_shown_of(fine_rows_of(x))
 }

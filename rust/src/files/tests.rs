@@ -2,7 +2,7 @@
 
 use super::*;
 use crate::tests::{answered, ABOVE, GOOD, MARK, TOO_LARGE};
-use crate::{complete_line, predict_line, predict_line_geometric_mean, spectrum, LONGEST_ANSWER};
+use crate::{complete_line, predict_line, spectrum, LONGEST_ANSWER};
 
 /// A line with every field that may be blank, and one with inferred figures and minus signs.
 const BLANK: &[u8] = b"- - - - - - - - - - - - -";
@@ -120,10 +120,6 @@ fn a_record_is_answered_as_its_line() {
         assert_eq!(
             record.answer(Sheet::Prediction, &mut out),
             Ok(&answered(predict_line, line)[..])
-        );
-        assert_eq!(
-            record.answer(Sheet::PredictionGeometricMean, &mut out),
-            Ok(&answered(predict_line_geometric_mean, line)[..])
         );
         assert_eq!(record.answer(Sheet::Completion, &mut [MARK; 4]), Err(16));
     }

@@ -3,7 +3,7 @@
 
 use super::*;
 use crate::tests::{answered, Answer, ABOVE, GOOD, MARK, TOO_LARGE};
-use crate::{complete_line, predict_line, predict_line_geometric_mean, LONGEST_COMPLETION};
+use crate::{complete_line, predict_line, LONGEST_COMPLETION};
 
 /// What the completing sheet says to document 01's listing.
 const COMPLETED: &[u8] = b"ok 90 10000 3000 5000 2000 emmem\nno 2\nno 10\n";
@@ -11,14 +11,11 @@ const COMPLETED: &[u8] = b"ok 90 10000 3000 5000 2000 emmem\nno 2\nno 10\n";
 const MALFORMED: &[u8] = b"no 14\n";
 const MARKS: [u8; LONGEST_ANSWER] = [MARK; LONGEST_ANSWER];
 
-const SHEETS: [Sheet; 3] = [Sheet::Completion, Sheet::Prediction, Sheet::PredictionGeometricMean];
-
 /// A line's answers by themselves.
 fn answer_of(sheet: Sheet) -> Answer {
     match sheet {
         Sheet::Completion => complete_line,
         Sheet::Prediction => predict_line,
-        Sheet::PredictionGeometricMean => predict_line_geometric_mean,
     }
 }
 
@@ -166,13 +163,11 @@ fn the_listing_completed_in_every_cut_and_room() {
 #[test]
 fn the_listing_predicted_in_every_cut() {
     let list = listing();
-    for sheet in [Sheet::Prediction, Sheet::PredictionGeometricMean] {
-        let longest = answered(answer_of(sheet), GOOD).len();
-        for lent in [0, 5, longest - 1, longest, longest + 5, LONGEST_ANSWER] {
-            every_cut(sheet, &list, lent, the_longest);
-        }
-        every_cut(sheet, &list[list.len() - 50..], 0, one_byte_more);
+    let longest = answered(predict_line, GOOD).len();
+    for lent in [0, 5, longest - 1, longest, longest + 5, LONGEST_ANSWER] {
+        every_cut(Sheet::Prediction, &list, lent, the_longest);
     }
+    every_cut(Sheet::Prediction, &list[list.len() - 50..], 0, one_byte_more);
 }
 
 #[test]
@@ -188,7 +183,7 @@ fn the_longest_completion_in_every_cut() {
 #[test]
 fn the_listing_without_its_end() {
     let list = listing();
-    for sheet in SHEETS {
+    for sheet in [Sheet::Completion, Sheet::Prediction] {
         let answers = line_by_line(sheet, &list[..list.len() - 1]);
         assert_eq!(answers[1..], [&b"no 2\n"[..], MALFORMED]);
         for lent in [0, 4, 5, 6, LONGEST_COMPLETION, LONGEST_ANSWER] {
@@ -245,7 +240,7 @@ fn line_of(length: usize) -> Vec<u8> {
 fn long_lines() {
     for length in [90, 105, 106, 114, 115, 116, 117, 5000] {
         let list = listed(&[&line_of(length), GOOD, b"", &vec![b'x'; length], TOO_LARGE]);
-        for sheet in SHEETS {
+        for sheet in [Sheet::Completion, Sheet::Prediction] {
             let answers = line_by_line(sheet, &list);
             let good = answered(answer_of(sheet), GOOD);
             assert_eq!(answers, [MALFORMED, &good, MALFORMED, MALFORMED, b"no 2\n"]);
@@ -262,7 +257,7 @@ fn long_lines() {
 fn a_sheet_for_each_line() {
     let mut reader = Reader::new();
     let mut out = MARKS;
-    for sheet in [&SHEETS[..], &SHEETS[1..], &SHEETS].concat() {
+    for sheet in [Sheet::Prediction, Sheet::Completion, Sheet::Prediction] {
         let answer = answered(answer_of(sheet), GOOD);
         assert_eq!(reader.take_part(sheet, GOOD, &mut []), Ok((GOOD.len(), 0)));
         assert_eq!(reader.take_part(sheet, b"\n", &mut out[..answer.len() - 1]), Err(16));
@@ -310,7 +305,7 @@ fn readers_of_any_bytes() {
         bytes.fill_with(|| some_byte(&mut state));
         bytes[READER - 1] = round as u8;
         let part: Vec<u8> = (0..next(&mut state) % 60).map(|_| some_byte(&mut state)).collect();
-        let sheet = SHEETS[round / 256 % SHEETS.len()];
+        let sheet = [Sheet::Completion, Sheet::Prediction][round / 256 % 2];
         let room = next(&mut state) as usize % 50;
         let mut out = MARKS;
         let mut reader = Reader::from_bytes(bytes);
@@ -407,7 +402,7 @@ fn written_whole(answers: &mut Answers<Slow>, list: &[u8], size: usize) -> usize
 /// Holds what a writer got, in parts of several sizes and of two lists one after the other, to the whole.
 fn answers_through(at_most: usize, fault: fn(usize) -> Option<ErrorKind>) {
     let list = tried();
-    for sheet in SHEETS {
+    for sheet in [Sheet::Completion, Sheet::Prediction] {
         let whole = line_by_line(sheet, &list).concat();
         for size in [1, 3, 44, 45, 100, list.len()] {
             let mut answers = Answers::new(sheet, Slow::new(at_most, fault));

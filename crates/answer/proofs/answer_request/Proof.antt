@@ -13,8 +13,8 @@ complete-requires c κs = search rules
 write-completion-requires : tie.Need-write-completion-requires
 write-completion-requires c κs = search rules
 
-enum-known-sheet : tie.Need-enum-known-sheet
-enum-known-sheet c = search rules
+enum-told-2 : tie.Need-enum-told-2
+enum-told-2 c = search rules
 
 predict-shown-requires : tie.Need-predict-shown-requires
 predict-shown-requires c κs = search rules
@@ -22,8 +22,8 @@ predict-shown-requires c κs = search rules
 write-spectrum-requires : tie.Need-write-spectrum-requires
 write-spectrum-requires c κs = search rules
 
-enum-known-sheet-2 : tie.Need-enum-known-sheet-2
-enum-known-sheet-2 c = search rules
+enum-known-sheet : tie.Need-enum-known-sheet
+enum-known-sheet c = search rules
 
 predict-period-requires : tie.Need-predict-period-requires
 predict-period-requires c κs = search rules
@@ -49,9 +49,9 @@ returns_2 : tie.Need-returns-2
 returns_2 c =
     let w = c.before.before in
     let k = w.before in
-    let t = k.before.before.before in
+    let t = k.before.before in
     let s = t.before.before.before in
-    rw (t.sheet.given.1, prediction_lines s.args.r t.sheet.given.0.0, ← k.predict-shown.ensures) w.write-spectrum.ensures
+    rw (t.enum-told2.given.1, prediction_lines s.args.r, ← k.predict-shown.ensures) w.write-spectrum.ensures
 
 same-length-3 : tie.Need-same-length-3
 same-length-3 c = search rules
@@ -62,7 +62,7 @@ returns_3 c =
     let k = w.before in
     let t = k.before.before.before in
     let s = t.before.before.before in
-    rw (t.sheet2.given.1, period_lines s.args.r t.sheet2.given.0.0 t.sheet2.given.0.1.0, ← k.predict-period.ensures) w.write-period.ensures
+    rw (t.sheet.given.1, period_lines s.args.r t.sheet.given.0.0, ← k.predict-period.ensures) w.write-period.ensures
 
 pub answer_request_spec : {M : Type 1} → statement M
 answer_request_spec =
@@ -71,10 +71,10 @@ answer_request_spec =
     enum_told
     complete-requires
     write-completion-requires
-    enum-known-sheet
+    enum-told-2
     predict-shown-requires
     write-spectrum-requires
-    enum-known-sheet-2
+    enum-known-sheet
     predict-period-requires
     write-period-requires
     same_length

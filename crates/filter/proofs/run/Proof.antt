@@ -36,8 +36,8 @@ slice-aggregate-read-list-2 c = search rules
 -- a block has room for the longest answer of every sheet
 enough : (sheet : Sheet) → longest_answer sheet ≤ 65536
 enough S.Completion = omega arith
-enough (S.Prediction w) = omega arith
-enough (S.Period w t) = omega arith
+enough S.Prediction = omega arith
+enough (S.Period t) = omega arith
 
 read-list-requires : tie.Need-read-list-requires
 read-list-requires c κs =

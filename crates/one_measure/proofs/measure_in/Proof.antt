@@ -21,7 +21,7 @@ returns c =
     let v = c.before in
     let m = v.before.before in
     let a = m.before.before.args in
-    measure_given a.median.now a.sigma.now (measure_answer a.wanted (line_of a.line.now) a.measure) v.y.given.0.0 v.y.given.0.1.0
+    measure_given a.median.now a.total.now (measure_answer (line_of a.line.now) a.measure) v.y.given.0.0 v.y.given.0.1.0
     (sym m.measure-of.ensures ∙ v.y.given.1)
 
 returns_2 : tie.Need-returns-2
@@ -29,7 +29,7 @@ returns_2 c =
     let v = c.before in
     let m = v.before.before in
     let a = m.before.before.args in
-    measure_refused a.median.now a.sigma.now (measure_answer a.wanted (line_of a.line.now) a.measure) v.n.given.0.0
+    measure_refused a.median.now a.total.now (measure_answer (line_of a.line.now) a.measure) v.n.given.0.0
     (sym m.measure-of.ensures ∙ v.n.given.1)
 
 pub measure_in_spec : {M : Type 1} → statement M

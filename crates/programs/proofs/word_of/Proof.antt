@@ -1,4 +1,4 @@
--- The bytes of the argument are those of a word that is known, or they are not. Assumes nothing.
+-- The bytes of the argument are those of the first word, or of the second, or they are not. Assumes nothing.
 use borrow.Author.Rules.{rules}
 use mathlib.Core.Path.{◌≡◌}
 use mathlib.Core.Bool.{false}
@@ -35,35 +35,12 @@ returns_2 c =
     let e = t.before.before in
     rw (no_help e, same_equal e.before.before.before.before.args.s.now (ascii "--period") (t.same2.ensures.0 c.if2.true))
 
-no_period : (c : tie.Else2) → same_text c.before.before.before.before.before.before.before.args.s.now (ascii "--period") ≡ false
-unfolding ascii
-no_period c =
-    let t = c.before in
-    other_text t.before.before.before.before.before.before.args.s.now (ascii "--period") t.same2.ensures.1 c.if2.false
-
-slice-aggregate-same-3 : tie.Need-slice-aggregate-same-3
-slice-aggregate-same-3 c = search rules
-
-same-requires-3 : tie.Need-same-requires-3
-same-requires-3 c κs = search rules
-
 returns_3 : tie.Need-returns-3
 unfolding word_of ascii
 returns_3 c =
     let t = c.before in
-    let p = t.before.before in
-    let e = p.before.before.before in
-    let s = e.before.before.before.before in
-    rw (no_help e, no_period p, same_equal s.args.s.now (ascii "--geometric-mean") (t.same3.ensures.0 c.if3.true))
-
-returns-4 : tie.Need-returns-4
-unfolding word_of ascii
-returns-4 c =
-    let t = c.before in
-    let p = t.before.before in
-    let e = p.before.before.before in
-    let s = e.before.before.before.before in
-    rw (no_help e, no_period p, other_text s.args.s.now (ascii "--geometric-mean") t.same3.ensures.1 c.if3.false)
+    let e = t.before.before in
+    rw (no_help e, other_text e.before.before.before.before.args.s.now (ascii "--period") t.same2.ensures.1 c.if2.false)
 
 pub word_of_spec : {M : Type 1} → statement M
 word_of_spec =
@@ -75,7 +52,4 @@ word_of_spec =
     slice-aggregate-same-2
     same-requires-2
     returns_2
-    slice-aggregate-same-3
-    same-requires-3
-    returns_3
-    returns-4)
+    returns_3)

@@ -12,10 +12,10 @@ use Rattle.reports.proofs.all_shown_of.Statement.{statement}
 use Rattle.reports.proofs.all_shown_of.Tie as tie
 
 abbrev invariant-loop : tie.invariant-loop
-invariant-loop wanted fine rows₀ i₀ rows i = Filled no_shown (λ (j : ℕ). shown_of wanted (report (get_or fine j no_fine))) rows i
+invariant-loop fine rows₀ i₀ rows i = Filled no_shown (λ (j : ℕ). shown_of (report (get_or fine j no_fine))) rows i
 
 abbrev decreases-loop : tie.decreases-loop
-decreases-loop wanted fine rows₀ i₀ rows i = measures - i
+decreases-loop fine rows₀ i₀ rows i = measures - i
 
 loop-holds : tie.Need-loop-init invariant-loop decreases-loop
 loop-holds c = record { whole = refl; end = omega arith; below = λ j l. absurd (omega (arith, l)) }

@@ -18,7 +18,7 @@ shown-of-requires c κs =
 
 returns : tie.Need-returns
 unfolding row_fixed
-returns c = c.Shown-of.ensures ∙ ap (λ (f : Fine). shown_of c.before.before.args.wanted (report f)) c.before.fine-at.ensures
+returns c = c.Shown-of.ensures ∙ ap (λ (f : Fine). shown_of (report f)) c.before.fine-at.ensures
 
 pub shown_at_spec : {M : Type 1} → statement M
 shown_at_spec =

@@ -20,7 +20,7 @@ returns : tie.Need-returns
 unfolding row_fixed
 returns c =
     let n = c.all-shown-of.ensures in
-    (n.0, λ k h. n.1 k h ∙ ap (λ (f : Fine). shown_of c.before.before.args.wanted (report f)) (c.before.fine-rows-of.ensures.1 k h))
+    (n.0, λ k h. n.1 k h ∙ ap (λ (f : Fine). shown_of (report f)) (c.before.fine-rows-of.ensures.1 k h))
 
 pub shown_rows_of_spec : {M : Type 1} → statement M
 shown_rows_of_spec = tie.close (tie.spec fine-rows-of-requires all-shown-of-requires returns)

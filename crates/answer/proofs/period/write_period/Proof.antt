@@ -28,7 +28,7 @@ returns c =
     let o = w.before in
     let k = o.before.before.before in
     let s = k.before.before.before in
-    rw (k.a.given.1, period_value s.args.wanted s.args.period k.a.given.0.0, ← o.Shown-of.ensures) w.write-row.ensures
+    rw (k.a.given.1, period_value s.args.period k.a.given.0.0, ← o.Shown-of.ensures) w.write-row.ensures
 
 same_length_2 : tie.Need-same-length-2
 same_length_2 c = search rules
@@ -38,7 +38,7 @@ returns_2 c =
     let w = c.before.before in
     let k = w.before.before in
     let s = k.before.before.before.before in
-    rw (k.before.a2.given.1, period_number s.args.wanted s.args.period k.before.a2.given.0.0) w.write-no.ensures
+    rw (k.before.a2.given.1, period_number s.args.period k.before.a2.given.0.0) w.write-no.ensures
 
 pub write_period_spec : {M : Type 1} → statement M
 write_period_spec =

@@ -1,4 +1,4 @@
--- The measure number is put, ln median, the median and the sigma, with the byte after each. Assumes nothing.
+-- The measure number is put, ln median, the median and the total sigma, with the byte after each. Assumes nothing.
 use borrow.Author.Rules.{rules}
 use Prim.Native.Nat.{ℕ, ◌+◌, ◌≤◌}
 use mathlib.Core.List.{List, [], ◌∷◌, ◌++◌}

@@ -14,17 +14,7 @@ returns_2 c = rw (ne_eqb c.before.before.args.n 0 c.before.if1.false, eq-eqb c.b
 
 returns_3 : tie.Need-returns-3
 unfolding numbered
-returns_3 c =
-    let e = c.before in
-    let n = e.before.before.args.n in
-    rw (ne_eqb n 0 e.before.if1.false, ne_eqb n 1 e.if2.false, eq-eqb n 2 c.if3.true)
-
-returns-4 : tie.Need-returns-4
-unfolding numbered
-returns-4 c =
-    let e = c.before in
-    let n = e.before.before.args.n in
-    rw (ne_eqb n 0 e.before.if1.false, ne_eqb n 1 e.if2.false, ne_eqb n 2 c.if3.false)
+returns_3 c = rw (ne_eqb c.before.before.args.n 0 c.before.if1.false, ne_eqb c.before.before.args.n 1 c.if2.false)
 
 pub sheet_numbered_spec : {M : Type 1} → statement M
-sheet_numbered_spec = tie.close (tie.spec returns returns_2 returns_3 returns-4)
+sheet_numbered_spec = tie.close (tie.spec returns returns_2 returns_3)

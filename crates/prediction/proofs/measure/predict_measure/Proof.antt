@@ -33,7 +33,7 @@ returns c =
     let t = c.before in
     let k = t.before.before in
     let s = k.before in
-    sym (measure_refused s.args.wanted s.args.r c.number_of_lem.result s.args.measure
+    sym (measure_refused s.args.r c.number_of_lem.result s.args.measure
     (refused_by s.args.r _ _ _ k.complete.ensures t.enum_told.given.1 c.number_of_lem.ensures))
 
 completed-at : (c : tie.After-c) → completion_of c.before.before.before.args.r ≡ C.Done c.c.given.0.0
@@ -43,7 +43,7 @@ returns_2 : tie.Need-returns-2
 returns_2 c =
     let k = c.before.before in
     let s = k.before.before.before in
-    sym (measure_none s.args.wanted s.args.r k.c.given.0.0 s.args.measure (completed-at k) c.if1.true)
+    sym (measure_none s.args.r k.c.given.0.0 s.args.measure (completed-at k) c.if1.true)
 
 scenario-of-requires : tie.Need-scenario-of-requires
 scenario-of-requires c κs = search rules
@@ -59,10 +59,9 @@ shown-at-requires c κs = (omega (arith, c.before.if1.false), ready c)
 small : (c : tie.After-shown-at) → ShownSmall c.shown_at.result
 small c =
     let x = c.before in
-    let s = x.before.before.before.before.before.before in
-    let measure = s.args.measure in
+    let measure = x.before.before.before.before.before.before.args.measure in
     subst ShownSmall (sym c.shown_at.ensures)
-    (shown_small s.args.wanted (row_fixed measure x.scenario-of.result)
+    (shown_small (row_fixed measure x.scenario-of.result)
     (fixed_small measure x.scenario-of.result (omega (arith, x.before.if1.false)) (ready x)))
 
 of-nat-requires : tie.Need-of-nat-requires
@@ -79,7 +78,7 @@ returns_3 c =
     let k = x.before.before.before in
     let s = k.before.before.before in
     rw (c.before.of-nat.ensures.0, c.of-nat2.ensures.0, a.shown_at.ensures, x.scenario-of.ensures)
-    (sym (measure_fixed s.args.wanted s.args.r k.c.given.0.0 s.args.measure (completed-at k) x.before.if1.false))
+    (sym (measure_fixed s.args.r k.c.given.0.0 s.args.measure (completed-at k) x.before.if1.false))
 
 pub predict_measure_spec : {M : Type 1} → statement M
 predict_measure_spec =

@@ -39,8 +39,8 @@ returns c =
     let t = n.before in
     let k = t.before.before in
     let r = k.before.args.r in
-    c.refused-shown.ensures k.before.args.wanted
-    ∙ ap (shown_spectrum k.before.args.wanted)
+    c.refused-shown.ensures
+    ∙ ap shown_spectrum
     (sym (spectrum_refused r n.number_of_lem.result (refused_by r _ _ _ k.complete.ensures t.enum_told.given.1 n.number_of_lem.ensures)))
 
 completed-at : (c : tie.After-c) → completion_of c.before.before.before.args.r ≡ C.Done c.c.given.0.0
@@ -61,11 +61,10 @@ returns_2 : tie.Need-returns-2
 unfolding shown_spectrum_of shown_spectrum spectrum_of spectrum_for
 returns_2 c =
     let k = c.before.before.before in
-    let w = k.before.before.before.args.wanted in
     let x = c.before.scenario-of.result in
-    let rows = shown_are w x c.shown-rows-of.result c.shown-rows-of.ensures.0 c.shown-rows-of.ensures.1 in
-    with_rows _ _ (rows ∙ ap (λ (y : Scenario). map (shown_of w) (rows_of y)) c.before.scenario-of.ensures)
-    ∙ sym (ap (λ (a : Completion). shown_spectrum w (spectrum_for a)) (completed-at k))
+    let rows = shown_are x c.shown-rows-of.result c.shown-rows-of.ensures.0 c.shown-rows-of.ensures.1 in
+    with_rows _ _ (rows ∙ ap (λ (y : Scenario). map shown_of (rows_of y)) c.before.scenario-of.ensures)
+    ∙ sym (ap (λ (a : Completion). shown_spectrum (spectrum_for a)) (completed-at k))
 
 pub predict_shown_spec : {M : Type 1} → statement M
 predict_shown_spec =
