@@ -158,8 +158,11 @@ class Function:
             points["rsp"] = points["rbp"] - WORD
         elif text == PROBED:
             points["rsp"] = points["r11"]
-        elif found := COPIED.fullmatch(text):
+        elif (found := COPIED.fullmatch(text)) and found[1] in points:
             points[found[2]] = points[found[1]]
+        elif found and found[2] != "rsp":
+            # a number is copied, and no pointer into the stack
+            points.pop(found[2], None)
         elif (found := BESIDE.fullmatch(text)) and found[2] in points:
             points[found[3]] = points[found[2]] - int(found[1], 16)
         elif found := CHANGED.fullmatch(text):

@@ -2,8 +2,8 @@
  * Xanhupive from C: a request line completed, or its shaking predicted, in 24 measures or at any period from
  * 0.010 to 10.0 s, by the Campbell-Bozorgnia 2008 equations; a list of such lines answered in parts; and such a list
  * as a file, written, read back, and answered record by record.
- * Link libexport.a, which `rt staticlib export` writes, and nothing beside it but the C library's memcpy and
- * memset. A valve's controller, short of flash, links libcontroller.a instead, which `rt staticlib controller` writes:
+ * Link libexport.a, which `c/libraries export` writes, and nothing beside it but the C library's memcpy and
+ * memset. A valve's controller, short of flash, links libcontroller.a instead, which `c/libraries controller` writes:
  * it has xanhupive_measure alone, and asks for nothing beside it.
  *
  * A request line is the thirteen fields with single spaces between them, without its LF: a figure that was measured
@@ -19,8 +19,8 @@
  * How near, for every request that is accepted: ln median and each sigma lie within one in the sixth place,
  * one millionth, of the exact value; the median lies within 1 + Y/500000 of the exact Y, counted in its unit of
  * 10^-10, and is at least 1. Of a spectrum that is the theorem `accepted-rows`, of the lines that
- * xanhupive_predict_line and a list in parts write of one `accepted-shown`, of one measure `accepted-measure`, of one
- * period `accepted-period`; docs/ASSURANCE.md says where they stand.
+ * xanhupive_predict_line and a list in parts write of one `accepted_shown`, of one measure `accepted_measure`, of one
+ * period `accepted_period`; docs/ASSURANCE.md says where they stand.
  *
  * What a caller owes, which nothing here can test:
  *   - A pointer and its length are of one block that may be read, and where it is no pointer to const
@@ -106,20 +106,20 @@ extern "C" {
  * most: the square root, by quarters of its number, stands on the stack 33 times, the series of the sine 8 times, the
  * digits of a number 20 times.
  */
-#define XANHUPIVE_STACK_COMPLETE_LINE 5296
-#define XANHUPIVE_STACK_PREDICT_LINE 6384
-#define XANHUPIVE_STACK_MEASURE 1664
-#define XANHUPIVE_STACK_SPECTRUM 7024
-#define XANHUPIVE_STACK_PERIOD 2112
+#define XANHUPIVE_STACK_COMPLETE_LINE 3712
+#define XANHUPIVE_STACK_PREDICT_LINE 4896
+#define XANHUPIVE_STACK_MEASURE 1648
+#define XANHUPIVE_STACK_SPECTRUM 6112
+#define XANHUPIVE_STACK_PERIOD 2240
 #define XANHUPIVE_STACK_READER_BEGIN 8
-#define XANHUPIVE_STACK_TAKE_PART 6592
-#define XANHUPIVE_STACK_CLOSE 144
-#define XANHUPIVE_STACK_PACK 1280
-#define XANHUPIVE_STACK_UNPACK 1680
-#define XANHUPIVE_STACK_FILE_RECORDS 1264
-#define XANHUPIVE_STACK_RECORD_SPECTRUM 7024
-#define XANHUPIVE_STACK_RECORD_ANSWER 6400
-#define XANHUPIVE_STACK_CONTROLLER 1200
+#define XANHUPIVE_STACK_TAKE_PART 5088
+#define XANHUPIVE_STACK_CLOSE 96
+#define XANHUPIVE_STACK_PACK 920
+#define XANHUPIVE_STACK_UNPACK 1288
+#define XANHUPIVE_STACK_FILE_RECORDS 888
+#define XANHUPIVE_STACK_RECORD_SPECTRUM 6112
+#define XANHUPIVE_STACK_RECORD_ANSWER 4928
+#define XANHUPIVE_STACK_CONTROLLER 1216
 
 /*
  * The completing program's answer: "ok", the five figures and their letters, m for measured, i for inferred, e for

@@ -1,4 +1,4 @@
-//! Links `target/staticlib/libexport.a`, which `rt staticlib export` writes.
+//! Links `target/staticlib/libexport.a`, which `c/libraries export` writes.
 
 fn main() {
     let folder = concat!(env!("CARGO_MANIFEST_DIR"), "/../target/staticlib");

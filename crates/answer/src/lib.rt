@@ -1,5 +1,7 @@
 // From the bytes of a request line to the bytes of its answer: read, worked out and written, one line
 // a call, as the sheet that is asked for shows it.
+#![tactic(auto)]
+
 mod period;
 mod rows;
 
@@ -19,7 +21,7 @@ use text::{Line, read_line};
 
 // Which answers are asked for: the completed figures, the rows of the measures, or the row at a period in
 // thousandths of a second.
-#[derive(Drop)]
+#[derive(Clone, Copy)]
 pub enum Sheet {
     Completion,
     Prediction,

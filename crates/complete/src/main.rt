@@ -1,5 +1,10 @@
 // The completing program: a list of requests on standard input, a header and one answer line a
-// request on standard output. Its exit status says nothing; that of `programs/link`'s does.
-fn main() {
-    programs::xanhupive_program_complete();
+// request on standard output. Its exit status is what `programs` returns.
+#![tactic(auto)]
+
+use programs::xanhupive_program_complete;
+use std::process::ExitCode;
+
+fn main(rt: HostRuntime) -> ExitCode {
+    ExitCode::from(xanhupive_program_complete(&rt) as u8)
 }

@@ -1,5 +1,7 @@
 // A request completed: every figure that was left blank estimated by its one published rule, or the
 // first refusal in document 01's order, stage by stage.
+#![tactic(auto)]
+
 ghost use Rattle.std.specs.Prelude.{◌≡◌};
 ghost use Rattle.outcome.specs.Figures.{rrup, z25};
 ghost use Rattle.outcome.specs.Answers.{completed, completion_of};
@@ -13,6 +15,7 @@ use site_stage::complete_site;
 use source_stage::complete_source;
 
 // The request with its blank figures completed.
+#[tactic(auto, unfolding(outcome::specs::Answers::completed, outcome::specs::Stages::source_figures))]
 fn gathered(r: Request, s: Source, distance: Field, depth: Field) -> Request
     requires { (s ≡ source_figures r) × (distance ≡ rrup r) × (depth ≡ z25 r) }
     ensures { result ≡ completed r }

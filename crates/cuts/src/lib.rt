@@ -1,4 +1,6 @@
 // Bytes cut behind the last of a kind, such as a list behind its last line.
+#![tactic(auto)]
+
 ghost use Rattle.std.specs.Prelude.{◌≡◌, ◌≤◌, length};
 ghost use Rattle.cuts.specs.Cuts.{up_to};
 

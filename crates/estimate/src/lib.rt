@@ -1,6 +1,8 @@
 // The published estimates of what a request leaves blank, the rupture distance apart: source
 // document 000's rules for the source and the site. Each function equals a definition of crate rules,
 // whose proofs/ say how near that lies to the rule. Lengths and depths are whole metres, rounded down.
+#![tactic(auto)]
+
 mod site;
 mod source;
 

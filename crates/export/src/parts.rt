@@ -5,8 +5,7 @@ ghost use Rattle.kept.specs.Calls.{loan, numbered, begin_told, part_told, close_
 use kept::{begin_reader, close_in, take_in};
 
 // A reader before the first byte of a list: 0, or 255 where it is lent too few bytes.
-#[unsafe(no_mangle)]
-pub extern "C" fn xanhupive_reader_begin(reader: &mut [u8]) -> u32
+pub fn xanhupive_reader_begin(reader: &mut [u8]) -> u32
     ensures { (result, reader.new) ≡ begin_told reader.old }
 {
     begin_reader(reader)
@@ -14,8 +13,7 @@ pub extern "C" fn xanhupive_reader_begin(reader: &mut [u8]) -> u32
 
 // A part of a list: 0, with how many of its bytes were taken and how many written; or 16; or 255 for too
 // few bytes of a reader or a number that is no sheet's.
-#[unsafe(no_mangle)]
-pub extern "C" fn xanhupive_take_part(
+pub fn xanhupive_take_part(
     reader: &mut [u8],
     sheet: u64,
     part: &[u8],
@@ -29,8 +27,7 @@ pub extern "C" fn xanhupive_take_part(
 }
 
 // The end of a list: 0, with how many bytes were written, and a new reader; or 16; or 255.
-#[unsafe(no_mangle)]
-pub extern "C" fn xanhupive_close(reader: &mut [u8], out: &mut [u8], wrote: &mut u64) -> u32
+pub fn xanhupive_close(reader: &mut [u8], out: &mut [u8], wrote: &mut u64) -> u32
     ensures { (result, loan reader.new out.new 0 wrote.new) ≡ close_told (loan reader.old out.old 0 wrote.old) }
 {
     close_in(reader, out, wrote)

@@ -6,8 +6,7 @@ use row_numbers::period_in;
 
 // The row at a period of a line without its LF, six numbers, at the start of `row`: 0, or the refusal's
 // number, and then no number has changed.
-#[unsafe(no_mangle)]
-pub extern "C" fn xanhupive_period(line: &[u8], period: u64, row: &mut [f64]) -> u32
+pub fn xanhupive_period(line: &[u8], period: u64, row: &mut [f64]) -> u32
     ensures { PeriodGiven (period_answer (line_of line.now) period) row.old result row.new }
 {
     period_in(line, period, row)

@@ -1,5 +1,7 @@
 // The hanging wall's four factors (6) and the basin's factor below 3 km (12), the same for every
 // measure, in units of 10^-9. Each function equals a definition of model's specs or of specs/Factoring.
+#![tactic(auto)]
+
 ghost use Rattle.std.specs.Prelude.{◌≡◌, ◌≤◌};
 ghost use Rattle.model.specs.Equations.{f_hng_m, f_hng_z, f_hng_dip};
 ghost use Rattle.model.specs.Accuracy.{InRange};
@@ -10,7 +12,7 @@ use model::Scenario;
 use reckon::{E9, exp_fixed, whole_root};
 
 // What is worked out once for a request: the product of the hanging wall's factors, and the basin's.
-#[derive(Drop)]
+#[derive(Clone, Copy)]
 pub struct Factors {
     pub wall: u64,
     pub deep: u64,

@@ -1,4 +1,6 @@
 // The fields of a request one after the other.
+#![tactic(auto)]
+
 ghost use Rattle.std.specs.Prelude.{◌≡◌};
 ghost use Rattle.fields.specs.Held.{fields_in};
 

@@ -1,35 +1,31 @@
 // What the programs say of themselves.
 use crate::Program;
-use libc::{STDERR_FILENO, STDOUT_FILENO};
+use failures::say_failed;
 
 // One line of usage on standard error. Whether it can be written changes nothing.
-pub fn put_usage(program: Program) {
-    match program {
-        Program::Pack => {
-            io::write_all(STDERR_FILENO, b"usage: pack LIST FILE, or pack --help\n");
-        }
-        Program::Unpack => {
-            io::write_all(
-                STDERR_FILENO,
-                b"usage: unpack FILE LIST, or unpack --help\n",
-            );
-        }
-    }
+pub fn put_usage(rt: &impl Eprint, program: Program) {
+    let _ = match program {
+        Program::Pack => rt.eprintln("usage: pack LIST FILE, or pack --help"),
+        Program::Unpack => rt.eprintln("usage: unpack FILE LIST, or unpack --help"),
+    };
 }
 
 // Writes to standard output, or says why it cannot.
-fn put_out(s: &[u8]) -> bool {
-    let is_written = io::write_all(STDOUT_FILENO, s);
-    if !is_written {
-        os::fail(b"standard output");
+fn put_out(rt: &(impl Print + Eprint), s: &[u8]) -> bool {
+    match rt.write_all(s) {
+        Ok(()) => true,
+        Err(error) => {
+            say_failed(rt, "standard output", error);
+            false
+        }
     }
-    is_written
 }
 
 // The help of a program on standard output: whether all of it was written.
-pub fn put_help(program: Program) -> bool {
+pub fn put_help(rt: &(impl Print + Eprint), program: Program) -> bool {
     match program {
         Program::Pack => put_out(
+            rt,
             b"usage: pack LIST FILE\n\
             \n\
             Reads request lines from LIST and writes them to FILE as a file for site lists:\n\
@@ -51,6 +47,7 @@ pub fn put_help(program: Program) -> bool {
             or FILE cannot be written; 2 for any other arguments.\n",
         ),
         Program::Unpack => put_out(
+            rt,
             b"usage: unpack FILE LIST\n\
             \n\
             Reads FILE, a file for site lists as pack writes it, and writes its requests to\n\

@@ -6,19 +6,21 @@ ghost use Rattle.list_lines.specs.ListLines.{lines_of, requests_in};
 ghost use Rattle.site_files.specs.Format.{most_records, head_of, records_of};
 ghost use Rattle.file_streams.specs.Ends.{block_size, room_size, ReadTo, Stepped, StepEnds, Taken, Closed, ReadEnd, PackEnd};
 
-use crate::{End, put_all};
+use crate::{End, ROOM, put_all};
 use cuts::up_to_last;
+use failures::say_failed;
 use lent::put_text;
 use list_lines::{Survey, survey_lines};
 use refusals::{FILE_LENGTH, MALFORMED};
 use site_files::{MOST, put_head, put_records};
+use std::io::{self, Seek, SeekFrom, Write};
 use text::LONGEST;
 
 // The most bytes of a list that are taken at once.
 const BLOCK: usize = 16384;
 
 // What came of some lines: so many so far, up to one more than a file has; refused; or the system failed.
-#[derive(Drop)]
+#[derive(Clone, Copy)]
 enum Step {
     Going(usize),
     Refused(u32),
@@ -26,7 +28,7 @@ enum Step {
 }
 
 // What a read brought: so many bytes with those from before, the end, or nothing that can be read.
-#[derive(Drop)]
+#[derive(Clone, Copy)]
 enum Read {
     Bytes(usize),
     Ended,
@@ -34,7 +36,7 @@ enum Read {
 }
 
 // What came of a block: its lines, and how many bytes of an unfinished line are held.
-#[derive(Drop)]
+#[derive(Clone, Copy)]
 struct Turn {
     kept: usize,
     step: Step,
@@ -44,32 +46,51 @@ struct Turn {
 // follow take besides the bytes what these must be.
 
 // Writes a head that has no count yet.
-fn put_first(file: i32, path: &[u8], head: &[u8]) -> bool
+fn put_first(rt: &impl Eprint, file: &mut impl Write, path: &str, head: &[u8]) -> bool
     requires { head.now ≡ head_of 0 }
 {
-    put_all(file, path, head)
+    put_all(rt, file, path, head)
 }
 
 // Writes the records of some lines.
-fn put_block(file: i32, path: &[u8], lines: &[u8], records: &[u8]) -> bool
+fn put_block(
+    rt: &impl Eprint,
+    file: &mut impl Write,
+    path: &str,
+    lines: &[u8],
+    records: &[u8],
+) -> bool
     requires { records.now ≡ records_of (requests_in (lines_of lines.now)) }
 {
-    put_all(file, path, records)
+    put_all(rt, file, path, records)
 }
 
 // Writes the head of a file of so many records over its first bytes.
-fn put_count(file: i32, path: &[u8], count: usize, head: &[u8]) -> bool
+fn put_count(
+    rt: &impl Eprint,
+    file: &mut (impl Write + Seek),
+    path: &str,
+    count: usize,
+    head: &[u8],
+) -> bool
     requires { head.now ≡ head_of count }
 {
-    let is_written = io::count(libc::pwrite(file, head, 0), head) == head.len();
-    if !is_written {
-        os::fail(path);
+    if let Err(error) = file.seek(SeekFrom::Start(0)) {
+        say_failed(rt, path, error);
+        return false;
     }
-    is_written
+    put_all(rt, file, path, head)
 }
 
 // Takes some whole lines after so many others: their records are written, unless there are too many already.
-fn pack_lines(file: i32, path: &[u8], count: usize, lines: &[u8], out: &mut [u8]) -> Step
+fn pack_lines(
+    rt: &impl Eprint,
+    file: &mut impl Write,
+    path: &str,
+    count: usize,
+    lines: &[u8],
+    out: &mut [u8],
+) -> Step
     requires { (count ≤ most_records + 1) × (length lines.now ≤ block_size) × (room_size ≤ length out.old) }
     ensures { Stepped count lines.now result }
 {
@@ -80,7 +101,7 @@ fn pack_lines(file: i32, path: &[u8], count: usize, lines: &[u8], out: &mut [u8]
         return Step::Going(MOST + 1);
     }
     let p = put_records(out, 0, lines);
-    if put_block(file, path, lines, &out[..p]) {
+    if put_block(rt, file, path, lines, &out[..p]) {
         Step::Going(count + n)
     } else {
         Step::Failed
@@ -88,7 +109,14 @@ fn pack_lines(file: i32, path: &[u8], count: usize, lines: &[u8], out: &mut [u8]
 }
 
 // The end of a list, of whose last line so many bytes came without an LF.
-fn end_pack(file: i32, path: &[u8], kept: usize, count: usize, out: &mut [u8]) -> End
+fn end_pack(
+    rt: &impl Eprint,
+    file: &mut (impl Write + Seek),
+    path: &str,
+    kept: usize,
+    count: usize,
+    out: &mut [u8],
+) -> End
     requires { room_size ≤ length out.old }
     ensures { Closed kept count result }
 {
@@ -99,7 +127,7 @@ fn end_pack(file: i32, path: &[u8], kept: usize, count: usize, out: &mut [u8]) -
         return End::Refused(FILE_LENGTH);
     }
     let p = put_head(out, count as u64);
-    if put_count(file, path, count, &out[..p]) {
+    if put_count(rt, file, path, count, &out[..p]) {
         End::Whole
     } else {
         End::Failed
@@ -109,8 +137,9 @@ fn end_pack(file: i32, path: &[u8], kept: usize, count: usize, out: &mut [u8]) -
 // Takes a block of a list, after so many lines: its whole lines are packed, and what is left of a line is held, if
 // that can still be one.
 fn take_block(
-    file: i32,
-    path: &[u8],
+    rt: &impl Eprint,
+    file: &mut impl Write,
+    path: &str,
     count: usize,
     block: &[u8],
     held: &mut [u8],
@@ -130,18 +159,26 @@ fn take_block(
     put_text(held, 0, &block[cut..]);
     Turn {
         kept: kept,
-        step: pack_lines(file, path, count, &block[..cut], out),
+        step: pack_lines(rt, file, path, count, &block[..cut], out),
     }
 }
 
 // How a run ends where nothing more is read.
-fn end_read(read: Read, file: i32, path: &[u8], kept: usize, count: usize, out: &mut [u8]) -> End
+fn end_read(
+    read: Read,
+    rt: &impl Eprint,
+    file: &mut (impl Write + Seek),
+    path: &str,
+    kept: usize,
+    count: usize,
+    out: &mut [u8],
+) -> End
     requires { room_size ≤ length out.old }
     ensures { ReadEnd kept count read result }
 {
     match read {
         Read::Bytes(_) => End::Failed,
-        Read::Ended => end_pack(file, path, kept, count, out),
+        Read::Ended => end_pack(rt, file, path, kept, count, out),
         Read::Failed => End::Failed,
     }
 }
@@ -159,30 +196,35 @@ fn end_of(step: Step) -> End
 }
 
 // Lays what is held in a block and reads behind it: how many bytes there are then, if any came.
-fn read_behind(list: i32, path: &[u8], held: &[u8], block: &mut [u8]) -> Read
+fn read_behind(
+    rt: &impl Eprint,
+    list: &mut impl io::Read,
+    path: &str,
+    held: &[u8],
+    block: &mut [u8],
+) -> Read
     requires { length held.now ≤ length block.old }
     ensures { (ReadTo (length block.new) result) × (take (length held.now) block.new ≡ held.now) }
 {
     let kept = put_text(block, 0, held);
-    let got = libc::read(list, &mut block[kept..]);
-    if got < 0 {
-        os::fail(path);
-        return Read::Failed;
+    match list.read(&mut block[kept..]) {
+        Ok(0) => Read::Ended,
+        Ok(n) => Read::Bytes(kept + n),
+        Err(error) => {
+            say_failed(rt, path, error);
+            Read::Failed
+        }
     }
-    if got == 0 {
-        return Read::Ended;
-    }
-    let n = io::count(got, &block[kept..]);
-    Read::Bytes(kept + n)
 }
 
 // Reads the list to its end. A proved loop has to end, and nothing says that the input does: the turns are
-// counted down from a number that no run uses up.
+// counted up to a number that no run comes to.
 fn read_list(
-    list: i32,
-    list_path: &[u8],
-    file: i32,
-    file_path: &[u8],
+    rt: &impl Eprint,
+    list: &mut impl io::Read,
+    list_path: &str,
+    file: &mut (impl Write + Seek),
+    file_path: &str,
     input: &mut [u8],
     held: &mut [u8],
     out: &mut [u8],
@@ -192,36 +234,40 @@ fn read_list(
 {
     let mut kept = 0usize;
     let mut count = 0usize;
-    let mut turns = u64::MAX;
-    while turns > 0 {
-        let read = read_behind(list, list_path, &held[..kept], input);
+    for _ in 0..u64::MAX {
+        let read = read_behind(rt, list, list_path, &held[..kept], input);
         let Read::Bytes(n) = read else {
-            return end_read(read, file, file_path, kept, count, out);
+            return end_read(read, rt, file, file_path, kept, count, out);
         };
-        let turn = take_block(file, file_path, count, &input[..n], held, out);
+        let turn = take_block(rt, file, file_path, count, &input[..n], held, out);
         let step = turn.step;
         let Step::Going(lines) = step else {
             return end_of(step);
         };
         kept = turn.kept;
         count = lines;
-        turns -= 1;
     }
     End::Failed
 }
 
 // The list read from its beginning to its end, behind a head that has no count yet.
-pub fn pack_stream(list: i32, list_path: &[u8], file: i32, file_path: &[u8]) -> End
+pub fn pack_stream(
+    rt: &impl Eprint,
+    list: &mut impl io::Read,
+    list_path: &str,
+    file: &mut (impl Write + Seek),
+    file_path: &str,
+) -> End
     ensures { PackEnd result }
 {
     let mut input = [0u8; BLOCK];
     let mut held = [0u8; LONGEST];
-    let mut out = io::large_buffer();
+    let mut out = [0u8; ROOM];
     let p = put_head(&mut out, 0);
-    if !put_first(file, file_path, &out[..p]) {
+    if !put_first(rt, file, file_path, &out[..p]) {
         return End::Failed;
     }
     read_list(
-        list, list_path, file, file_path, &mut input, &mut held, &mut out,
+        rt, list, list_path, file, file_path, &mut input, &mut held, &mut out,
     )
 }

@@ -7,17 +7,19 @@ ghost use Rattle.list_lines.specs.ListLines.{requests_in};
 ghost use Rattle.site_files.specs.Format.{records_in};
 ghost use Rattle.file_streams.specs.Ends.{room_size, some_records, is_written, is_failed, Unblocked, Continued, Behind, UnpackEnd};
 
-use crate::{End, put_all};
+use crate::{End, ROOM, put_all};
+use failures::say_failed;
 use list_lines::Survey;
 use records::RECORD;
 use refusals::{FILE_FIELD, FILE_LENGTH, NO_FILE};
 use site_files::{HEAD, count_in, is_marked, put_lines, survey_records};
+use std::io::{Read, Write};
 
 // The most records that are taken at once.
 const SOME: usize = 600;
 
 // What came of some records: written as lines, one is malformed, or the system failed.
-#[derive(Drop)]
+#[derive(Clone, Copy)]
 enum Block {
     Written,
     Malformed,
@@ -55,32 +57,48 @@ fn least(left: usize) -> usize
 
 // Reads so many bytes to the start of a buffer, or to the end of the input: how many came, one more than were asked
 // for where it cannot be read.
-fn fill(file: i32, path: &[u8], buffer: &mut [u8], size: usize) -> usize
+fn fill(rt: &impl Eprint, file: &mut impl Read, path: &str, buffer: &mut [u8], size: usize) -> usize
     requires { size ≤ length buffer.old }
     ensures { result ≤ size + 1 }
 {
-    let n = io::read_full(file, &mut buffer[..size]);
-    if size <= n {
-        return size;
+    let mut n = 0usize;
+    while n < size {
+        match file.read(&mut buffer[n..size]) {
+            Ok(0) => return n,
+            Ok(some) => n += some,
+            Err(error) => {
+                say_failed(rt, path, error);
+                return size + 1;
+            }
+        }
     }
-    let mut more = [0u8; 1];
-    if libc::read(file, &mut more) < 0 {
-        os::fail(path);
-        return size + 1;
-    }
-    n
+    size
 }
 
 // Writes the lines of so many records: nothing can be said of what the system does with bytes, but what is
 // handed to it can.
-fn put_list(list: i32, path: &[u8], records: &[u8], count: usize, lines: &[u8]) -> bool
+fn put_list(
+    rt: &impl Eprint,
+    list: &mut impl Write,
+    path: &str,
+    records: &[u8],
+    count: usize,
+    lines: &[u8],
+) -> bool
     requires { lines.now ≡ list_text (requests_in (records_in count records.now)) }
 {
-    put_all(list, path, lines)
+    put_all(rt, list, path, lines)
 }
 
 // Takes so many records.
-fn unpack_block(list: i32, path: &[u8], records: &[u8], count: usize, out: &mut [u8]) -> Block
+fn unpack_block(
+    rt: &impl Eprint,
+    list: &mut impl Write,
+    path: &str,
+    records: &[u8],
+    count: usize,
+    out: &mut [u8],
+) -> Block
     requires { (count ≤ some_records) × (record_size * count ≤ length records.now) × (room_size ≤ length out.old) }
     ensures { Unblocked count records.now result }
 {
@@ -88,7 +106,7 @@ fn unpack_block(list: i32, path: &[u8], records: &[u8], count: usize, out: &mut 
         return Block::Malformed;
     };
     let p = put_lines(out, records, count);
-    if put_list(list, path, records, count, &out[..p]) {
+    if put_list(rt, list, path, records, count, &out[..p]) {
         Block::Written
     } else {
         Block::Failed
@@ -96,29 +114,31 @@ fn unpack_block(list: i32, path: &[u8], records: &[u8], count: usize, out: &mut 
 }
 
 // The end of a file's records: nothing may follow them, and all must have been well-formed.
-fn end_unpack(file: i32, path: &[u8], sound: bool) -> End
+fn end_unpack(rt: &impl Eprint, file: &mut impl Read, path: &str, sound: bool) -> End
     ensures { Behind sound result }
 {
     let mut more = [0u8; 1];
-    let got = libc::read(file, &mut more);
-    if got < 0 {
-        os::fail(path);
-        return End::Failed;
-    }
-    if 0 < got {
-        return End::Refused(FILE_LENGTH);
-    }
-    if sound {
-        End::Whole
-    } else {
-        End::Refused(FILE_FIELD)
+    match file.read(&mut more) {
+        Ok(0) => {
+            if sound {
+                End::Whole
+            } else {
+                End::Refused(FILE_FIELD)
+            }
+        }
+        Ok(_) => End::Refused(FILE_LENGTH),
+        Err(error) => {
+            say_failed(rt, path, error);
+            End::Failed
+        }
     }
 }
 
 // Takes so many records after others: none is written after one that is malformed.
 fn unpack_more(
-    list: i32,
-    path: &[u8],
+    rt: &impl Eprint,
+    list: &mut impl Write,
+    path: &str,
     sound: bool,
     records: &[u8],
     count: usize,
@@ -128,7 +148,7 @@ fn unpack_more(
     ensures { Continued sound count records.now result }
 {
     if sound {
-        unpack_block(list, path, records, count, out)
+        unpack_block(rt, list, path, records, count, out)
     } else {
         Block::Malformed
     }
@@ -136,10 +156,11 @@ fn unpack_more(
 
 // So many records, some at a time. After one that is malformed all are read: the file may be too short.
 fn unpack_records(
-    file: i32,
-    file_path: &[u8],
-    list: i32,
-    list_path: &[u8],
+    rt: &impl Eprint,
+    file: &mut impl Read,
+    file_path: &str,
+    list: &mut impl Write,
+    list_path: &str,
     count: usize,
     input: &mut [u8],
     out: &mut [u8],
@@ -152,30 +173,36 @@ fn unpack_records(
     while left > 0 {
         let some = least(left);
         let size = RECORD * some;
-        let n = fill(file, file_path, input, size);
+        let n = fill(rt, file, file_path, input, size);
         if size < n {
             return End::Failed;
         }
         if n < size {
             return End::Refused(FILE_LENGTH);
         }
-        let block = unpack_more(list, list_path, sound, &input[..size], some, out);
+        let block = unpack_more(rt, list, list_path, sound, &input[..size], some, out);
         if is_failed(block) {
             return End::Failed;
         }
         sound = is_written(block);
         left -= some;
     }
-    end_unpack(file, file_path, sound)
+    end_unpack(rt, file, file_path, sound)
 }
 
 // The file read from its beginning to its end.
-pub fn unpack_stream(file: i32, file_path: &[u8], list: i32, list_path: &[u8]) -> End
+pub fn unpack_stream(
+    rt: &impl Eprint,
+    file: &mut impl Read,
+    file_path: &str,
+    list: &mut impl Write,
+    list_path: &str,
+) -> End
     ensures { UnpackEnd result }
 {
-    let mut input = io::large_buffer();
-    let mut out = io::large_buffer();
-    let n = fill(file, file_path, &mut input, HEAD);
+    let mut input = [0u8; ROOM];
+    let mut out = [0u8; ROOM];
+    let n = fill(rt, file, file_path, &mut input, HEAD);
     if HEAD < n {
         return End::Failed;
     }
@@ -187,6 +214,6 @@ pub fn unpack_stream(file: i32, file_path: &[u8], list: i32, list_path: &[u8]) -
     }
     let count = count_in(&input[..n]);
     unpack_records(
-        file, file_path, list, list_path, count, &mut input, &mut out,
+        rt, file, file_path, list, list_path, count, &mut input, &mut out,
     )
 }

@@ -1,17 +1,14 @@
 -- The reader from part to part and from block to block: what it leaves of a part it would take next, and after all of some bytes it is
 -- the same however they were cut. Assumes nothing.
-use Prim.Native.Nat.{ℕ, zero, suc, ◌≤◌}
+use Prim.Native.Nat.{ℕ, zero, suc, min, ◌≤◌, ◌<◌}
 use mathlib.Core.Path.{◌≡◌, refl, sym, ap, ◌∙◌}
 use mathlib.Core.Bool.{Bool, true, false, cond}
 use mathlib.Core.List.{List, [], ◌∷◌, ◌++◌}
 use native.Mathlib.Nat.{zero-add}
 use native.Mathlib.Omega.{arith}
 use lib.Dec.{eqb, ltb}
-use lib.IntN.{ℤ, pos, negsuc}
-use lib.Signed.{lt_z}
 use lib.ListN.{length, take, drop}
-use Rattle.io.specs.Counts.{clamp_len}
-use Rattle.exact.proofs.Signed.{lt-parts, nlt_parts}
+use Rattle.std.specs.Prelude.{Result, Ok, Err}
 use Rattle.lent.specs.Lent.{put}
 use Rattle.lent.proofs.PutLaws.{take_put}
 use Rattle.numerals.specs.Render.{lf}
@@ -26,7 +23,7 @@ use Rattle.lists.proofs.Progress.{fits_or_full, wrote_text, wrote-fits}
 use Rattle.filter.specs.declared.State.{State}
 use Rattle.filter.specs.declared.State.TheVariants as S
 use Rattle.filter.specs.declared.Turn.{Turn}
-use Rattle.filter.specs.Turns.{reader_after, turn, BlockTurn, ReadTurn, Took}
+use Rattle.filter.specs.Turns.{EndTurn, reader_after, turn, BlockTurn, ReadTurn, Took}
 
 -- ---- bytes cut in two
 pub after-append : (r : Reader) (a b : List ℕ) → reader_after r (a ++ b) ≡ reader_after (reader_after r a) b
@@ -98,20 +95,17 @@ module _ {sheet : Sheet} {r : Reader} {part b : List ℕ} {t : Taken} {b₁ : Li
       ∙ ap (λ (n : ℕ). (read_from sheet n r [] part).text) (sym e)
 
 -- ---- what `read` answered
-module _ (r : Reader) (input : List ℕ) where
-  pub unread : (got : ℤ) → lt_z got (pos 0) ≡ true → ReadTurn got r input (turn r S.Unread)
-  unread (pos n) e = absurd (omega (arith, lt-parts (pos n) (pos 0) e))
-  unread (negsuc n) e = refl
+pub unread : {E : Type 0} (r : Reader) (input : List ℕ) (e : E) → ReadTurn (Err e) r input (turn r S.Unread)
+unread r input e = refl
 
-  pub ended : (got : ℤ) → lt_z got (pos 0) ≡ false → lt_z (pos 0) got ≡ false → ReadTurn got r input (turn r S.Ended)
-  ended (pos zero) e f = refl
-  ended (pos (suc n)) e f = absurd (omega (arith, nlt_parts (pos 0) (pos (suc n)) f))
-  ended (negsuc n) e f = absurd (omega (arith, nlt_parts (negsuc n) (pos 0) e))
+module _ (E : Type 0) (r : Reader) (input : List ℕ) where
+  pub ended : (n : ℕ) → n ≡ 0 → ReadTurn {E = E} (Ok n) r input (turn r S.Ended)
+  ended zero e = refl
+  ended (suc k) e = absurd (omega arith)
 
-  pub some_read : (got : ℤ) {t : Turn} → lt_z (pos 0) got ≡ true → BlockTurn r (take (clamp_len got (length input)) input) t → ReadTurn got r input t
-  some_read (pos zero) e b = absurd (omega (arith, lt-parts (pos 0) (pos 0) e))
-  some_read (pos (suc n)) e b = b
-  some_read (negsuc n) e b = absurd (omega (arith, lt-parts (pos 0) (negsuc n) e))
+  pub some_read : (n : ℕ) {t : Turn} → 0 < n → BlockTurn r (take (min n (length input)) input) t → ReadTurn {E = E} (Ok n) r input t
+  some_read zero h b = absurd (omega arith)
+  some_read (suc k) h b = b
 
 -- ---- from turn to turn
 none : (r : Reader) (s : State) → Took r (turn r s)
@@ -122,10 +116,10 @@ of_block : {r : Reader} {block : List ℕ} {t : Turn} → BlockTurn r block t �
 of_block {r} {block} BlockTurn.answered = record { bytes = block; reader = refl }
 of_block {r} BlockTurn.unwritten = none r S.Unwritten
 
-pub of_read : (got : ℤ) {r : Reader} (input : List ℕ) {t : Turn} → ReadTurn got r input t → Took r t
-of_read (negsuc k) {r} input e = rw e (none r S.Unread)
-of_read (pos zero) {r} input e = rw e (none r S.Ended)
-of_read (pos (suc k)) input b = of_block b
+pub of_read : {E : Type 0} (got : Result ℕ E) {r : Reader} (input : List ℕ) {t : Turn} → ReadTurn got r input t → Took r t
+of_read (Err e) {r} input h = rw h (none r S.Unread)
+of_read (Ok zero) {r} input h = rw h (none r S.Ended)
+of_read (Ok (suc k)) input b = of_block b
 
 pub begun : (r : Reader) (s : State) → r ≡ new_reader → Took new_reader (turn r s)
 unfolding reader_after
@@ -142,3 +136,10 @@ next-turn {first} l m =
 -- the same reader, however far the run has come
 pub same_reader : {first : Reader} {t : Turn} (s : State) → Took first t → Took first (turn t.reader s)
 same_reader s l = record { bytes = l.bytes; reader = l.reader }
+
+-- how a run ends whose input has ended: the last answer was written, or it was not
+pub ended_well : {s : State} → s ≡ S.Ended → EndTurn s S.Ended
+ended_well e = rw e (EndTurn.as_before S.Ended)
+
+pub ended_unwritten : {s : State} → s ≡ S.Ended → EndTurn s S.Unwritten
+ended_unwritten e = rw e EndTurn.last_unwritten

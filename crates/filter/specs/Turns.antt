@@ -1,5 +1,5 @@
 -- How far a run has come, turn by turn, and the status that it ends with. Definitions only.
-use Rattle.std.specs.Prelude.{ℕ, zero, suc, min, ◌≡◌, cond, List, [], ◌∷◌, eqb, ℤ, pos, negsuc, length, take}
+use Rattle.std.specs.Prelude.{ℕ, zero, suc, min, ◌≡◌, cond, List, [], ◌∷◌, eqb, Result, Ok, Err, length, take}
 use Rattle.numerals.specs.Render.{lf}
 use Rattle.lists.specs.declared.Reader.{Reader}
 use Rattle.lists.specs.Parts.{fresh, grown}
@@ -23,11 +23,11 @@ pub data BlockTurn (r : Reader) (block : List ℕ) : Turn → Type 0 where
   answered : BlockTurn r block (turn (reader_after r block) S.Going)
   unwritten : BlockTurn r block (turn r S.Unwritten)
 
--- what `read` answered, and the buffer after it: below 0 it cannot be read, at 0 it has ended, else so many of the bytes are a block
-abbrev pub ReadTurn : ℤ → Reader → List ℕ → Turn → Type 0
-ReadTurn (negsuc k) r input t = t ≡ turn r S.Unread
-ReadTurn (pos zero) r input t = t ≡ turn r S.Ended
-ReadTurn (pos (suc k)) r input t = BlockTurn r (take (min (suc k) (length input)) input) t
+-- what `read` answered, and the buffer after it: an error, and it cannot be read; at 0 it has ended; else so many of the bytes are a block
+abbrev pub ReadTurn : {E : Type 0} → Result ℕ E → Reader → List ℕ → Turn → Type 0
+ReadTurn (Err e) r input t = t ≡ turn r S.Unread
+ReadTurn (Ok zero) r input t = t ≡ turn r S.Ended
+ReadTurn (Ok (suc k)) r input t = BlockTurn r (take (min (suc k) (length input)) input) t
 
 -- turns that took some bytes or none: the reader is the one after them
 pub record Took (r : Reader) (t : Turn) : Type 0 where

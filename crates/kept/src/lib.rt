@@ -1,5 +1,7 @@
 // A list's reader in bytes that a caller lends between calls: those of its unfinished line, and then
 // how many these are. Any bytes are some reader.
+#![tactic(auto)]
+
 mod calls;
 
 ghost use Rattle.std.specs.Prelude.{◌≡◌, ◌≤◌, length};

@@ -1,5 +1,7 @@
 // Memory that a caller lends: bytes and numbers written into it from a place on, and what a writer
 // answers.
+#![tactic(auto)]
+
 mod bytes;
 mod numbers;
 

@@ -1,4 +1,6 @@
 // A completion, or a refusal, as a line of text in lent bytes.
+#![tactic(auto)]
+
 mod write;
 
 ghost use Rattle.lent.specs.Lent.{LentWritten};

@@ -1,14 +1,15 @@
 -- A list by its first LF, and in two. Assumes nothing.
 use Prim.Native.Nat.{ℕ, suc, ◌+◌, ◌-◌, ◌≤◌, ◌<◌}
 use mathlib.Core.Path.{◌≡◌, refl, ap, ◌∙◌}
-use mathlib.Core.Bool.{Bool, true, false, cond}
+use mathlib.Core.Bool.{Bool, true, false, cond, not}
 use mathlib.Core.List.{List, [], ◌∷◌, ◌++◌, append_assoc, append-nil}
 use native.Mathlib.Omega.{arith}
 use borrow.Author.Tests.{ne_eqb, eqb-true, eqb-false}
 use lib.Dec.{eqb}
 use lib.ListN.{length, take, drop, length-drop, length-append, drop_of_length-le}
-use lib.Seq.{take_all, drop-drop}
-use Rattle.bytes.specs.Bytes.{slice, index_after, index_of}
+use lib.Seq.{drop-drop}
+use Rattle.std.specs.Bool.{◌==◌}
+use Rattle.std.specs.List.{position_or_len}
 use Rattle.cuts.specs.Cuts.{up_to}
 use Rattle.numerals.specs.Render.{lf}
 use Rattle.text.specs.declared.read.Line.{Line}
@@ -17,52 +18,50 @@ use Rattle.text.specs.Grammar.{line_of}
 use Rattle.list_lines.specs.ListLines.{lines_from, lines_of}
 
 -- ---- the first LF
--- looked for up to the end
-to_end : (s : List ℕ) (i : ℕ) → slice i (length s) s ≡ drop i s
-unfolding slice
-to_end s i = ap (drop i) (take_all (length s) s (omega arith))
+-- its place, or the length
+abbrev pub lf_place : List ℕ → ℕ
+lf_place s = position_or_len (λ c. c == lf) s
 
 -- the bytes up to it are a line, and behind it the list goes on
-first-line : (line s : List ℕ) → index_of lf s < length s → lines_from line s ≡ line_of (line ++ take (index_of lf s) s) ∷ lines_of (drop (suc (index_of lf s)) s)
-unfolding lines_from index_of index_after
+first-line : (line s : List ℕ) → lf_place s < length s → lines_from line s ≡ line_of (line ++ take (lf_place s) s) ∷ lines_of (drop (suc (lf_place s)) s)
+unfolding lines_from
 first-line line [] h = absurd (omega arith)
 first-line line (c ∷ cs) h = go (eqb c lf) (first-line (line ++ (c ∷ [])) cs) h
   where
     go : (t : Bool)
-        → (index_of lf cs < length cs → lines_from (line ++ (c ∷ [])) cs ≡ line_of ((line ++ (c ∷ [])) ++ take (index_of lf cs) cs) ∷ lines_of (drop (suc (index_of lf cs)) cs))
-        → index_after t (index_of lf cs) < suc (length cs)
+        → (lf_place cs < length cs → lines_from (line ++ (c ∷ [])) cs ≡ line_of ((line ++ (c ∷ [])) ++ take (lf_place cs) cs) ∷ lines_of (drop (suc (lf_place cs)) cs))
+        → cond (not t) (1 + lf_place cs) 0 < suc (length cs)
         → cond t (line_of line ∷ lines_from [] cs) (lines_from (line ++ (c ∷ [])) cs)
-        ≡ line_of (line ++ take (index_after t (index_of lf cs)) (c ∷ cs)) ∷ lines_of (drop (suc (index_after t (index_of lf cs))) (c ∷ cs))
+        ≡ line_of (line ++ take (cond (not t) (1 + lf_place cs) 0) (c ∷ cs)) ∷ lines_of (drop (suc (cond (not t) (1 + lf_place cs) 0)) (c ∷ cs))
     go true ih g = rw (append-nil line)
-    go false ih g = ih (omega arith) ∙ rw (append_assoc line (c ∷ []) (take (index_of lf cs) cs))
+    go false ih g =
+        let e : 1 + lf_place cs ≡ suc (lf_place cs) = omega arith in
+        ih (omega arith) ∙ rw (e, append_assoc line (c ∷ []) (take (lf_place cs) cs))
 
 -- without one there is a line without its LF
-last_line : (line s : List ℕ) → index_of lf s ≡ length s → 0 < length line + length s → lines_from line s ≡ L.Malformed ∷ []
-unfolding lines_from index_of index_after
+last_line : (line s : List ℕ) → lf_place s ≡ length s → 0 < length line + length s → lines_from line s ≡ L.Malformed ∷ []
+unfolding lines_from
 last_line line [] h k = rw (ne_eqb (length line) 0 (λ e. omega arith))
 last_line line (c ∷ cs) h k = go (eqb c lf) (λ e. last_line (line ++ (c ∷ [])) cs e (omega (arith, length-append line (c ∷ [])))) h
   where
-    go : (t : Bool) → (index_of lf cs ≡ length cs → lines_from (line ++ (c ∷ [])) cs ≡ L.Malformed ∷ []) → index_after t (index_of lf cs) ≡ suc (length cs)
+    go : (t : Bool) → (lf_place cs ≡ length cs → lines_from (line ++ (c ∷ [])) cs ≡ L.Malformed ∷ []) → cond (not t) (1 + lf_place cs) 0 ≡ suc (length cs)
         → cond t (line_of line ∷ lines_from [] cs) (lines_from (line ++ (c ∷ [])) cs) ≡ L.Malformed ∷ []
     go true ih g = absurd (omega arith)
     go false ih g = ih (omega arith)
 
 -- the line at a place of a list, e the place of the first LF from there on, or the length
-module _ (s : List ℕ) (at e : ℕ) (is : e ≡ at + index_of lf (slice at (length s) s)) (inside : at < length s) where
-  found : e ≡ at + index_of lf (drop at s)
-  found = is ∙ ap (λ (l : List ℕ). at + index_of lf l) (to_end s at)
-
+module _ (s : List ℕ) (at e : ℕ) (is : e ≡ at + lf_place (drop at s)) (inside : at < length s) where
   pub unfinished : e ≡ length s → lines_of (drop at s) ≡ L.Malformed ∷ []
-  unfinished h = last_line [] (drop at s) (omega (arith, found, length-drop at s)) (omega (arith, length-drop at s))
+  unfinished h = last_line [] (drop at s) (omega (arith, is, length-drop at s)) (omega (arith, length-drop at s))
 
   pub line-here : (e ≡ length s → ⊥) → e ≤ length s → lines_of (drop at s) ≡ line_of (take (e - at) (drop at s)) ∷ lines_of (drop (e + 1) s)
-  line-here h l = first-line [] (drop at s) (omega (arith, found, length-drop at s)) ∙ rw (drop-drop (suc (index_of lf (drop at s))) at s, here, after)
+  line-here h l = first-line [] (drop at s) (omega (arith, is, length-drop at s)) ∙ rw (drop-drop (suc (lf_place (drop at s))) at s, here, after)
     where
-      here : index_of lf (drop at s) ≡ e - at
-      here = omega (arith, found)
+      here : lf_place (drop at s) ≡ e - at
+      here = omega (arith, is)
 
       after : at + suc (e - at) ≡ e + 1
-      after = omega (arith, found)
+      after = omega (arith, is)
 
 -- behind the list there is none
 pub no_line_lem : (s : List ℕ) (at : ℕ) → length s ≤ at → lines_of (drop at s) ≡ []

@@ -1,8 +1,12 @@
 // A list of request lines, each with its LF, looked through line by line.
+#![tactic(auto)]
+
+mod ends;
+
 ghost use Rattle.std.specs.Prelude.{◌≡◌, length};
 ghost use Rattle.list_lines.specs.ListLines.{lines_of, surveyed};
 
-use bytes::scan::find;
+pub use ends::line_end;
 use text::{Line, read_line};
 
 // What a list is found to be: well-formed, with a number that tells of it, or malformed.
@@ -19,7 +23,7 @@ pub fn survey_lines(s: &[u8]) -> Survey
     let mut n = 0usize;
     let mut at = 0usize;
     while at < s.len() {
-        let e = find(s, at, s.len(), b'\n');
+        let e = line_end(s, at);
         if e == s.len() {
             return Survey::Malformed;
         }

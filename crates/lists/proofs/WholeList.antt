@@ -2,7 +2,7 @@
 -- written, and what is owed for the bytes left and what follows.
 -- Assumes nothing.
 use Prim.Native.Nat.{ℕ, zero, suc, ◌+◌, ◌≤◌, ◌<◌}
-use mathlib.Core.Path.{◌≡◌, refl, sym, ap, subst, ◌∙◌}
+use mathlib.Core.Path.{◌≡◌, refl, sym, ap, ap₂, subst, ◌∙◌}
 use mathlib.Core.Bool.{Bool, true, false, cond}
 use mathlib.Core.List.{List, [], ◌∷◌, ◌++◌, append_assoc, append-nil}
 use native.Mathlib.Omega.{arith}
@@ -30,11 +30,9 @@ pub over_alike : (sheet : Sheet) (a b s : List ℕ) → longest < length a → l
 unfolding answers_from
 over_alike sheet a b [] h k = rw (ne_eqb (length a) 0 (λ e. omega arith), ne_eqb (length b) 0 (λ e. omega arith))
 over_alike sheet a b (c ∷ cs) h k =
-    rw (
-      over_answer sheet a h,
-      over_answer sheet b k,
-      over_alike sheet (a ++ (c ∷ [])) (b ++ (c ∷ [])) cs (omega (arith, length-append a (c ∷ []))) (omega (arith, length-append b (c ∷ []))),
-    )
+    ap₂ (λ (x y : List ℕ). cond (eqb c lf) (x ++ answers_from sheet [] cs) y)
+    (over_answer sheet a h ∙ sym (over_answer sheet b k))
+    (over_alike sheet (a ++ (c ∷ [])) (b ++ (c ∷ [])) cs (omega (arith, length-append a (c ∷ []))) (omega (arith, length-append b (c ∷ []))))
 
 -- ---- one byte more
 module _ (r : Reader) (full : length r.held ≡ longest) (c : ℕ) where
@@ -102,7 +100,10 @@ module _ (sheet : Sheet) (room : ℕ) (s : List ℕ) where
         s
     unfolding answers_from
     step true true e f g = rw e
-    step true false e f g = sym (append_assoc text line (answers_from sheet [] (cs ++ s))) ∙ rw (← no_line_lem r) f
+    step true false e f g =
+        sym (append_assoc text line (answers_from sheet [] (cs ++ s)))
+        ∙ ap (λ (l : List ℕ). (text ++ line) ++ answers_from sheet l (cs ++ s)) (sym (no_line_lem r))
+        ∙ f
     step false b e f g = ap (λ (l : List ℕ). text ++ l) (sym (grown-alike r full c sheet (cs ++ s))) ∙ g
 
   -- the same once the part is read

@@ -1,5 +1,7 @@
 // A list of requests read in parts, cut at any place: the answer to each whole line, as far as lent
 // bytes reach, and the unfinished line held from part to part.
+#![tactic(auto)]
+
 ghost use Rattle.std.specs.Prelude.{◌≡◌, length};
 ghost use Rattle.lent.specs.Lent.{LentWritten};
 ghost use Rattle.text.specs.Grammar.{longest};
@@ -116,8 +118,8 @@ pub fn take_part(sheet: Sheet, r: Reader, part: &[u8], out: &mut [u8]) -> Taken
 
 // The answer at the end of a list, into `out`: an unfinished line is malformed, of whatever length; or
 // TOO_LONG.
-fn answer_end(r: Reader, out: &mut [u8]) -> Wrote
-    ensures { LentWritten out.old (closing r) result out.new }
+fn answer_end(r: &Reader, out: &mut [u8]) -> Wrote
+    ensures { LentWritten out.old (closing r.now) result out.new }
 {
     let count = r.count;
     if count == 0 {
@@ -131,7 +133,7 @@ fn answer_end(r: Reader, out: &mut [u8]) -> Wrote
 pub fn close_list(r: Reader, out: &mut [u8]) -> Taken
     ensures { Closed r out.old result out.new }
 {
-    match answer_end(r, out) {
+    match answer_end(&r, out) {
         Wrote::To(n) => {
             let next = new_reader();
             Taken {

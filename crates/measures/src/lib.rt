@@ -1,6 +1,8 @@
 // The fine rows of the 24 measures, reckoned: from a request's completed figures to ln medians and
 // variances in units of 10^-9. Each function equals a definition of model's specs/Fixed, of which model's
 // proofs/ say how near it lies to the exact value.
+#![tactic(auto)]
+
 ghost use Rattle.std.specs.Prelude.{◌≡◌, ℕ, ◌<◌, length, get_or};
 ghost use Rattle.tables.specs.Tables.{measures, coefficients_at};
 ghost use Rattle.tables.specs.OfTables.{OfTable2};

@@ -1,10 +1,12 @@
 // The ground-motion model of Campbell and Bozorgnia 2008: what it is told and what it reports. The
 // definitions are in specs/, and proofs/ says how near the reported figures lie to the exact ones.
+#![tactic(auto)]
+
 use request::Style;
 
 // The completed figures that the model reads: magnitude in hundredths, Vs30 in m/s, dip in degrees,
 // lengths and depths in metres.
-#[derive(Drop)]
+#[derive(Clone, Copy)]
 pub struct Scenario {
     pub m: u64,
     pub style: Style,
@@ -19,7 +21,7 @@ pub struct Scenario {
 // One measure before it is rounded for the report, in units of 10^-9: ln median and the variances of the
 // intra-event, the total and the arbitrary component's sigma. The inter-event sigma is Table 3's t, in
 // thousandths.
-#[derive(Drop)]
+#[derive(Clone, Copy)]
 pub struct Fine {
     pub ln: i64,
     pub intra: u64,
@@ -30,7 +32,7 @@ pub struct Fine {
 
 // The reported figures of one measure: ln median and the four sigmas in millionths, the median in
 // 10^-10 of g, cm/s or cm.
-#[derive(Drop)]
+#[derive(Clone, Copy)]
 pub struct Row {
     pub ln: i64,
     pub median: u64,
@@ -41,7 +43,7 @@ pub struct Row {
 }
 
 // What a sheet shows of a row: one sigma beside ln median and the median.
-#[derive(Drop)]
+#[derive(Clone, Copy)]
 pub struct Shown {
     pub ln: i64,
     pub median: u64,

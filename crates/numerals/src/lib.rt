@@ -1,5 +1,7 @@
 // Numbers as decimal digits: written into lent bytes from a place on, counted, and read. Each function
 // that writes returns the place after what it wrote, and leaves every other byte as it was.
+#![tactic(auto)]
+
 mod read;
 
 ghost use Rattle.std.specs.Prelude.{◌≡◌, ◌+◌, ◌≤◌, length};

@@ -1,4 +1,6 @@
 // One measure of a line, laid in two numbers that a caller lends.
+#![tactic(auto)]
+
 ghost use Rattle.std.specs.Prelude.{◌≡◌};
 ghost use Rattle.text.specs.Grammar.{line_of};
 ghost use Rattle.one_measure.specs.OneMeasures.{measure_answer, MeasureGiven};

@@ -1,5 +1,7 @@
 // One period of a request, predicted: its row is the only one reckoned; or the first refusal in document
 // 01's order. The period is tested after all that is tested of the request.
+#![tactic(auto)]
+
 ghost use Rattle.std.specs.Prelude.{◌≡◌};
 ghost use Rattle.one_period.specs.OnePeriods.{period_of, float_period_of};
 

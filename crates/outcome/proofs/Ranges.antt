@@ -21,7 +21,7 @@ use Rattle.rules.specs.Fixed.{basin_fixed}
 use Rattle.rules.proofs.Ranges.{dip_of_range, hypocentre-top}
 use Rattle.rules.proofs.WidthNear.{width_fixed-near}
 use Rattle.rules.proofs.BasinNear.{basin_fixed-near}
-use Rattle.outcome.specs.Figures.{or_estimate, style, dip, width, zhyp, tenths_of, zhyp_tenths, ztor, rrup, basin_of}
+use Rattle.outcome.specs.Figures.{or_estimate, style, dip, width, zhyp, tenths_of, zhyp_tenths, ztor, basin_of}
 use Rattle.refusals.specs.Order.{first}
 use Rattle.outcome.specs.Refusals.{source_given, source_rows, path_given, path_rows, site_given}
 use Rattle.refusals.proofs.Rows.{clear, first-both}

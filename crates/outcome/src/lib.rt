@@ -1,6 +1,8 @@
 // The figures of a request once it is completed, or its refusal: whole, and by the three stages in which
 // the figures hang together, the source of the shaking, the path to the site, the site itself. What they
 // are is in specs/, and proofs/ says what holds of them; the stages' crates and completion reckon them.
+#![tactic(auto)]
+
 ghost use Rattle.std.specs.Prelude.{◌≡◌, ◌<◌};
 ghost use Rattle.outcome.specs.Figures.{estimated};
 ghost use Rattle.outcome.specs.Answers.{number_of};
@@ -17,7 +19,7 @@ pub fn estimated_figure(e: u64) -> Field
 }
 
 // The completed figures of the source.
-#[derive(Drop)]
+#[derive(Clone, Copy)]
 pub struct Source {
     pub dip: Field,
     pub w: Field,
@@ -26,7 +28,7 @@ pub struct Source {
 }
 
 // The answer of the source's stage: its figures, or the refusal's number.
-#[derive(Drop)]
+#[derive(Clone, Copy)]
 pub enum SourceAnswer {
     Known(Source),
     Refused(u32),
@@ -43,7 +45,7 @@ pub fn source_number(a: SourceAnswer) -> u32
 }
 
 // The answer of the path's stage and of the site's: one figure, or the refusal's number.
-#[derive(Drop)]
+#[derive(Clone, Copy)]
 pub enum FigureAnswer {
     Known(Field),
     Refused(u32),
@@ -61,7 +63,7 @@ pub fn figure_number(a: FigureAnswer) -> u32
 
 // The whole answer: the request with its blank figures estimated, each field saying where its figure came
 // from, or the refusal's number.
-#[derive(Drop)]
+#[derive(Clone, Copy)]
 pub enum Completion {
     Done(Request),
     Refused(u32),

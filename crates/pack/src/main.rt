@@ -1,4 +1,9 @@
-// The program that writes a file of a list. Its exit status says nothing; that of `programs/link`'s does.
-fn main() {
-    file_programs::xanhupive_program_pack();
+// The program that writes a file of a list. Its exit status is what `file_programs` returns.
+#![tactic(auto)]
+
+use file_programs::xanhupive_program_pack;
+use std::process::ExitCode;
+
+fn main(rt: HostRuntime) -> ExitCode {
+    ExitCode::from(xanhupive_program_pack(&rt, rt.process()) as u8)
 }

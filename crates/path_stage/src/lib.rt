@@ -1,4 +1,6 @@
 // The path from the rupture to the site: its length RRUP.
+#![tactic(auto)]
+
 ghost use Rattle.std.specs.Prelude.{◌≡◌, ◌-◌, ◌≤◌};
 ghost use Rattle.request.specs.Fields.{size_of};
 ghost use Rattle.outcome.specs.Figures.{dip, width, ztor, rrup};

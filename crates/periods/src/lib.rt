@@ -1,6 +1,8 @@
 // The row at any period, reckoned: at a tabulated one that of its measure, between two on the line
 // between their fine rows. Each function equals a definition of between's specs/Fixed, of which
 // between's proofs/ say how near it lies to the exact value.
+#![tactic(auto)]
+
 ghost use Rattle.std.specs.Prelude.{◌≡◌, ◌*◌, ◌≤◌, ◌<◌, pos, nat_abs};
 ghost use Rattle.exact.specs.Near.{up};
 ghost use Rattle.fixed.specs.Fixed.{E9};
@@ -47,6 +49,7 @@ fn last_up_to(t: u64) -> usize
 }
 
 // How far along the line from t1 to t2 the period t is: ln(t/t1)/ln(t2/t1).
+#[tactic(auto, unfolding(between::specs::Fixed::weight_fixed))]
 fn weight_of(t: u64, t1: u64, t2: u64) -> u64
     requires { Gap t1 t2 × (t1 ≤ t) × (t ≤ t2) }
     ensures { (result ≡ weight_fixed t t1 t2) × (result ≤ E9) }
@@ -58,6 +61,7 @@ fn weight_of(t: u64, t1: u64, t2: u64) -> u64
 
 // The number that far along the line from a to b. A quarter of the difference is taken, so that the
 // product fits.
+#[tactic(auto, using(crate::proofs::LineFits::steps))]
 fn on_line(w: u64, a: i64, b: i64) -> i64
     requires { (w ≤ E9) × (nat_abs a ≤ 16000000000) × (nat_abs b ≤ 16000000000) }
     ensures { result ≡ on_line_fixed w a b }
@@ -90,6 +94,7 @@ fn sigma_on_line(w: u64, v: u64, u: u64) -> u64
 }
 
 // The row between two fine ones, each sigma on its own line.
+#[tactic(auto, unfolding(between::specs::Fixed::drawn_fixed))]
 fn drawn_between(w: u64, f: Fine, g: Fine) -> Drawn
     requires { (w ≤ E9) × FineInRange f × FineInRange g }
     ensures { result ≡ drawn_fixed w f g }
@@ -112,6 +117,7 @@ fn to_millionths(s: u64) -> u64
 }
 
 // That row, rounded for the report.
+#[tactic(auto, unfolding(between::specs::Fixed::drawn_report))]
 fn drawn_report(d: Drawn) -> Row
     requires { DrawnInRange d }
     ensures { result ≡ drawn_report d }

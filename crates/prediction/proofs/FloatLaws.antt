@@ -23,10 +23,10 @@ use Rattle.prediction.specs.Floats.{Is, Same, float, floats_of, no_floats, float
 use Rattle.prediction.proofs.DemandThree.{twenty_four, rows-small, refused-rows}
 
 -- ---- one number
-pub in_float : (z : ℤ) → nat_abs z ≤ 9007199254740992 → T (in_float binary64 z)
+pub whole_in_float : (z : ℤ) → nat_abs z ≤ 9007199254740992 → T (in_float binary64 z)
 unfolding in_float
-in_float (pos n) h = le→leb n 9007199254740992 h
-in_float (negsuc n) h = lt→ltb n 9007199254740992 h
+whole_in_float (pos n) h = le→leb n 9007199254740992 h
+whole_in_float (negsuc n) h = lt→ltb n 9007199254740992 h
 
 pub float_is : (z : ℤ) → nat_abs z ≤ 9007199254740992 → Is (float z) z
 unfolding of_int

@@ -13,7 +13,7 @@ use borrow.Author.Tests.{lt-ltb, le-ltb, ltb-true, ltb-false}
 use Rattle.refusals.specs.Order as No
 use Rattle.request.specs.declared.Request.{Request}
 use Rattle.outcome.specs.declared.Completion.TheVariants as C
-use Rattle.outcome.specs.Refusals.{rows, refusal}
+use Rattle.outcome.specs.Refusals.{refusal}
 use Rattle.outcome.specs.Answers.{completed, completion_of}
 use Rattle.outcome.proofs.ExactlyWhen.{accepted_by, measure_unread}
 use Rattle.tables.specs.Tables.{measures}
@@ -68,6 +68,7 @@ measure_whole r c k e h =
 -- ---- demand 3
 near-told : (e : Exact) (s : Shown) (a : OneMeasure) → ShownAccurate e s → Tells s a → MeasureNear e a
 near-told e s (M.Value y z) n (told f g) = measure_near s.median s.sigma f g n.median-near n.sigma_near
+near-told e s (M.Refused _) n t = elim t [ ]
 
 pub accepted_measure :
     (r : Request) (c : Request) (k : ℕ) → completion_of r ≡ C.Done c → k < measures

@@ -12,7 +12,7 @@ use request::Request;
 use tables::MEASURES;
 
 // A row whose every field is the whole number as an f64.
-#[derive(Drop)]
+#[derive(Clone, Copy)]
 pub struct FloatRow {
     pub ln: f64,
     pub median: f64,
@@ -30,6 +30,7 @@ pub struct FloatSpectrum {
 }
 
 // A whole number as the f64 that it is.
+#[tactic(auto, using(crate::proofs::FloatLaws::float_is))]
 pub fn of_nat(n: u64) -> f64
     requires { n ≤ 9007199254740992 }
     ensures { (result ≡ float (pos n)) × Is result (pos n) }
@@ -46,6 +47,7 @@ pub fn of_int(n: i64) -> f64
 }
 
 // One row.
+#[tactic(auto, using(crate::proofs::FloatLaws::row_same), unfolding(crate::specs::Floats::floats_of))]
 pub fn float_row(r: Row) -> FloatRow
     requires { Small r }
     ensures { (result ≡ floats_of r) × Same result r }

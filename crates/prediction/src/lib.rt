@@ -1,5 +1,7 @@
 // A request predicted: completed, and the 24 measures of it reckoned; or the first refusal in
 // document 01's order, handed on from the completion with zeros in all else.
+#![tactic(auto)]
+
 mod floats;
 mod measure;
 mod shown;
@@ -24,6 +26,7 @@ pub struct Spectrum {
 }
 
 // The figures of a completed request that the model reads, whatever their origins.
+#[tactic(auto, unfolding(crate::specs::Spectra::scenario_of))]
 pub fn scenario_of(c: Request) -> Scenario
     ensures { result ≡ scenario_of c }
 {
@@ -48,6 +51,7 @@ pub fn scenario_of(c: Request) -> Scenario
 }
 
 // Zeros beside a refusal's number.
+#[tactic(auto, unfolding(crate::specs::Spectra::refused_with))]
 fn refused(n: u32) -> Spectrum
     ensures { result ≡ refused_with n }
 {

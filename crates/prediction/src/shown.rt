@@ -17,6 +17,7 @@ pub struct ShownSpectrum {
 }
 
 // Zeros beside a refusal's number.
+#[tactic(auto, unfolding(crate::specs::Spectra::shown_spectrum, crate::specs::Spectra::refused_with, model::specs::Rows::shown_of))]
 fn refused_shown(n: u32) -> ShownSpectrum
     ensures { result ≡ shown_spectrum (refused_with n) }
 {

@@ -1,11 +1,12 @@
 -- When two texts have the same bytes, and how large a status is. Assumes nothing.
 use Prim.Native.Nat.{ℕ, ◌≤◌}
 use mathlib.Core.Path.{◌≡◌, refl}
-use mathlib.Core.Bool.{Bool, true, false, cond}
+use mathlib.Core.Bool.{Bool, true, false, cond, ◌&&◌}
 use mathlib.Core.List.{List, [], ◌∷◌}
 use native.Mathlib.Omega.{arith}
 use borrow.Author.Tests.{eq-eqb, eqb-true}
 use lib.Dec.{eqb}
+use lib.Pointwise.{pointwise}
 use Rattle.programs.specs.declared.Asked.{Asked}
 use Rattle.programs.specs.declared.Asked.TheVariants as A
 use Rattle.programs.specs.Arguments.{same_text, EndsAs}
@@ -37,6 +38,18 @@ other_text a b {t} f h = go (same_text a b) refl
     go : (s : Bool) → same_text a b ≡ s → same_text a b ≡ false
     go true e = let k = f (equal_same a b e) in cc
     go false e = e
+
+-- so it is what `==` answers of them
+pub same_pointwise : (a b : List ℕ) → same_text a b ≡ pointwise eqb a b
+unfolding same_text
+same_pointwise [] [] = refl
+same_pointwise [] (y ∷ ys) = refl
+same_pointwise (x ∷ xs) [] = refl
+same_pointwise (x ∷ xs) (y ∷ ys) = go (eqb x y) (same_pointwise xs ys)
+  where
+    go : (t : Bool) → same_text xs ys ≡ pointwise eqb xs ys → cond t (same_text xs ys) false ≡ t && pointwise eqb xs ys
+    go true e = e
+    go false e = refl
 
 -- ---- the status
 pub status_small : (a : Asked) {n : ℕ} → EndsAs a n → n ≤ 2

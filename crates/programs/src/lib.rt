@@ -1,21 +1,28 @@
-// The programs, as functions that return the exit status: a program's own `main` cannot set one.
+// The programs, as functions that return the exit status.
+#![tactic(auto)]
+
 mod texts;
 
-ghost use Rattle.std.specs.Prelude.{◌≤◌, ◌≡◌};
+ghost use Rattle.std.specs.Prelude.{◌≤◌, ◌≡◌, length};
 ghost use Rattle.programs.specs.Arguments.{word_of, sheet_of, asked_alone, period_asked, asked_with, asked_of, EndsAs};
 
 use answer::Sheet;
 use numerals::{Plain, plain_number};
+use std::env::FillError;
+use std::rt::Env;
+
+// One more than the arguments that any program takes, its own name counted.
+const MOST: usize = 4;
 
 // Which program it is.
-#[derive(Drop)]
+#[derive(Clone, Copy)]
 enum Program {
     Complete,
     Predict,
 }
 
 // A word that a program knows, or any other.
-#[derive(Drop)]
+#[derive(Clone, Copy)]
 enum Word {
     Help,
     Period,
@@ -23,7 +30,7 @@ enum Word {
 }
 
 // What the arguments ask for. Misused: nothing that the program does.
-#[derive(Drop)]
+#[derive(Clone, Copy)]
 enum Asked {
     List(Sheet),
     Help,
@@ -34,10 +41,10 @@ enum Asked {
 fn word_of(s: &[u8]) -> Word
     ensures { result ≡ word_of s.now }
 {
-    if check::same(s, b"--help") {
+    if s == b"--help".as_slice() {
         return Word::Help;
     }
-    if check::same(s, b"--period") {
+    if s == b"--period".as_slice() {
         return Word::Period;
     }
     Word::Unknown
@@ -89,6 +96,7 @@ fn asked_with(program: Program, word: Word, number: Plain) -> Asked
 }
 
 // What is asked of a program by so many arguments, its own name counted, of which these two follow it.
+#[tactic(auto, unfolding(crate::specs::Arguments::asked_of))]
 fn asked_of(program: Program, count: usize, first: Word, second: Plain) -> Asked
     ensures { result ≡ asked_of program count first second }
 {
@@ -104,44 +112,63 @@ fn asked_of(program: Program, count: usize, first: Word, second: Plain) -> Asked
     Asked::Misused
 }
 
+// How many arguments there are, the program's own name counted, up to one more than any program takes.
+fn argument_count(rt: &impl Env) -> usize {
+    let mut word = [0u8; 1];
+    for i in 0..MOST {
+        if let Err(FillError::NotPresent) = rt.arg(i, &mut word) {
+            return i;
+        }
+    }
+    MOST
+}
+
+// The length of an argument, which goes to the start of a buffer: 0 where it is missing or does not fit.
+fn read_argument(rt: &impl Env, i: usize, word: &mut [u8]) -> usize
+    ensures { result ≤ length word.new }
+{
+    match rt.arg(i, word) {
+        Ok(n) => n,
+        Err(_) => 0,
+    }
+}
+
 // What the program was asked. An argument that is missing, empty or longer than any word or number that is
 // known has no bytes here.
-fn read_arguments(program: Program) -> Asked {
+fn read_arguments(rt: &impl Env, program: Program) -> Asked {
     let mut word = [0u8; 64];
     let mut number = [0u8; 64];
-    let n = os::arg(1, &mut word);
-    let m = os::arg(2, &mut number);
+    let n = read_argument(rt, 1, &mut word);
+    let m = read_argument(rt, 2, &mut number);
     let first = word_of(&word[..n]);
     let second = plain_number(&number[..m]);
-    asked_of(program, os::arg_count(), first, second)
+    asked_of(program, argument_count(rt), first, second)
 }
 
 // Does what is asked of a program, and returns the exit status.
-fn serve(asked: Asked, program: Program) -> u32
+fn serve(rt: &(impl Print + Eprint + Input), asked: Asked, program: Program) -> u32
     ensures { EndsAs asked result }
 {
     match asked {
-        Asked::List(sheet) => filter::run(sheet),
-        Asked::Help => { if texts::put_help(program) { 0 } else { 1 } }
+        Asked::List(sheet) => filter::run(rt, sheet),
+        Asked::Help => { if texts::put_help(rt, program) { 0 } else { 1 } }
         Asked::Misused => {
-            texts::put_usage(program);
+            texts::put_usage(rt, program);
             2
         }
     }
 }
 
 // The completing program.
-#[unsafe(no_mangle)]
-pub extern "C" fn xanhupive_program_complete() -> u32
+pub fn xanhupive_program_complete(rt: &(impl Print + Eprint + Input + Env)) -> u32
     ensures { result ≤ 2 }
 {
-    serve(read_arguments(Program::Complete), Program::Complete)
+    serve(rt, read_arguments(rt, Program::Complete), Program::Complete)
 }
 
 // The predicting program.
-#[unsafe(no_mangle)]
-pub extern "C" fn xanhupive_program_predict() -> u32
+pub fn xanhupive_program_predict(rt: &(impl Print + Eprint + Input + Env)) -> u32
     ensures { result ≤ 2 }
 {
-    serve(read_arguments(Program::Predict), Program::Predict)
+    serve(rt, read_arguments(rt, Program::Predict), Program::Predict)
 }

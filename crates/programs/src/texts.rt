@@ -1,44 +1,36 @@
 // What the programs say of themselves.
 use crate::Program;
 use filter::put_out;
-use libc::STDERR_FILENO;
 
 // One line of usage on standard error. Whether it can be written changes nothing.
-pub fn put_usage(program: Program) {
-    match program {
-        Program::Complete => {
-            io::write_all(
-                STDERR_FILENO,
-                b"usage: complete < LIST > ANSWERS, or complete --help\n",
-            );
-        }
+pub fn put_usage(rt: &impl Eprint, program: Program) {
+    let _ = match program {
+        Program::Complete => rt.eprintln("usage: complete < LIST > ANSWERS, or complete --help"),
         Program::Predict => {
-            io::write_all(
-                STDERR_FILENO,
-                b"usage: predict [--period T] < LIST > ANSWERS, or predict --help\n",
-            );
+            rt.eprintln("usage: predict [--period T] < LIST > ANSWERS, or predict --help")
         }
-    }
+    };
 }
 
 // The help of a program on standard output: whether all of it was written.
-pub fn put_help(program: Program) -> bool {
-    if !put_answers_help(program) {
+pub fn put_help(rt: &(impl Print + Eprint), program: Program) -> bool {
+    if !put_answers_help(rt, program) {
         return false;
     }
-    if !put_request_help() {
+    if !put_request_help(rt) {
         return false;
     }
-    if !put_example(program) {
+    if !put_example(rt, program) {
         return false;
     }
-    put_status_help()
+    put_status_help(rt)
 }
 
 // How the program is used and what it writes.
-fn put_answers_help(program: Program) -> bool {
+fn put_answers_help(rt: &(impl Print + Eprint), program: Program) -> bool {
     match program {
         Program::Complete => put_out(
+            rt,
             b"usage: complete < LIST > ANSWERS\n\
             \n\
             Reads request lines from standard input and writes to standard output a\n\
@@ -48,6 +40,7 @@ fn put_answers_help(program: Program) -> bool {
             estimated; or \"no\" and the number of the refusal.\n",
         ),
         Program::Predict => put_out(
+            rt,
             b"usage: predict [--period T] < LIST > ANSWERS\n\
             \n\
             Reads request lines from standard input and writes to standard output for each\n\
@@ -72,8 +65,9 @@ fn put_answers_help(program: Program) -> bool {
 }
 
 // The request's fields.
-fn put_request_help() -> bool {
+fn put_request_help(rt: &(impl Print + Eprint)) -> bool {
     put_out(
+        rt,
         b"\n\
         A request is a line of thirteen fields with single spaces, whole numbers all. A\n\
         \"~\" before a number and its sign says that it was inferred, say from a map, and\n\
@@ -95,8 +89,9 @@ fn put_request_help() -> bool {
 }
 
 // A request and its answer.
-fn put_example(program: Program) -> bool {
+fn put_example(rt: &(impl Print + Eprint), program: Program) -> bool {
     if !put_out(
+        rt,
         b"\n\
         Example: the request\n\
         \x20 650 0 760 - 10000 - 3000 4000 30 - - - 2000\n",
@@ -105,10 +100,12 @@ fn put_example(program: Program) -> bool {
     }
     match program {
         Program::Complete => put_out(
+            rt,
             b"gets\n\
             \x20 ok 90 10000 3000 5000 2000 emmem\n",
         ),
         Program::Predict => put_out(
+            rt,
             b"gets 24 lines, of which that of PGA is\n\
             \x20 21 -1021505 3600527821 519476\n\
             and with --period 370 the line\n\
@@ -118,8 +115,9 @@ fn put_example(program: Program) -> bool {
 }
 
 // What the exit status says.
-fn put_status_help() -> bool {
+fn put_status_help(rt: &(impl Print + Eprint)) -> bool {
     put_out(
+        rt,
         b"\n\
         Exit status: 0 where the list was answered to its end, whatever the answers; 1\n\
         where input cannot be read or output cannot be written; 2 for any other\n\

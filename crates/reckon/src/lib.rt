@@ -2,6 +2,8 @@
 // logarithm, the exponential, the sine and the cosine. Each equals a definition of crate fixed, the root
 // one of exact, and fixed's proofs/ say how near that lies to the exact value. Unless it says otherwise
 // a number stands in units of 10^-9.
+#![tactic(auto)]
+
 mod exp;
 mod ln;
 mod root;

@@ -1,5 +1,7 @@
 // A record of a file for site lists answered, as the sheet that is asked for shows it: lines of text in lent
 // bytes. Only the first bytes of the record are read, so that the rest of the file may follow.
+#![tactic(auto)]
+
 ghost use Rattle.kept.specs.Calls.{numbered};
 ghost use Rattle.site_files.specs.Given.{Given, Told};
 ghost use Rattle.record_answers.specs.RecordAnswers.{record_reply};

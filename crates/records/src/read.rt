@@ -10,6 +10,7 @@ use request::Field;
 use text::{Line, Word, request_of, signed_at};
 
 // The signed number that stands in four bytes.
+#[tactic(auto, unfolding(crate::specs::Records::signed_in))]
 fn signed_in(n: u64) -> i64
     requires { n < 4294967296 }
     ensures { result ≡ signed_in n }
@@ -21,6 +22,7 @@ fn signed_in(n: u64) -> i64
 }
 
 // Whether text could hold the number in a field, which may have a minus sign or not.
+#[tactic(auto, unfolding(fields::specs::Held::held))]
 fn is_held(signed: bool, v: i64) -> bool
     ensures { result ≡ held signed v }
 {
@@ -29,6 +31,7 @@ fn is_held(signed: bool, v: i64) -> bool
 }
 
 // A number that was given, by its origin.
+#[tactic(auto, unfolding(crate::specs::Records::given_as))]
 fn given_as(origin: u8, v: i64) -> Word
     ensures { result ≡ given_as origin v }
 {
@@ -42,6 +45,7 @@ fn given_as(origin: u8, v: i64) -> Word
 }
 
 // The field of a number and an origin.
+#[tactic(auto, unfolding(crate::specs::Records::field_in))]
 fn field_in(signed: bool, number: u64, origin: u8) -> Word
     requires { number < 4294967296 }
     ensures { result ≡ field_in signed number origin }
@@ -60,6 +64,7 @@ fn field_in(signed: bool, number: u64, origin: u8) -> Word
 }
 
 // Field k of a record.
+#[tactic(auto, unfolding(crate::specs::Records::field_at))]
 fn field_at(s: &[u8], k: usize) -> Word
     requires { (record_size ≤ length s.now) × (k < fields) }
     ensures { result ≡ field_at s.now k }

@@ -16,6 +16,7 @@ const TOP: u64 = 4_294_967_295;
 pub const LOWEST: u64 = 2_147_483_648;
 
 // A signed number as it stands in four bytes.
+#[tactic(auto, unfolding(crate::specs::Records::word_of))]
 fn word_of(v: i64) -> u64
     ensures { result ≡ word_of v }
 {
@@ -30,6 +31,7 @@ fn word_of(v: i64) -> u64
 }
 
 // The number of a field.
+#[tactic(auto, unfolding(crate::specs::Records::number_of))]
 fn number_of(f: Field) -> u64
     ensures { result ≡ number_of f }
 {
@@ -42,6 +44,7 @@ fn number_of(f: Field) -> u64
 }
 
 // The number of its origin.
+#[tactic(auto, unfolding(crate::specs::Records::origin_of))]
 fn origin_of(f: Field) -> u8
     ensures { result ≡ origin_of f }
 {

@@ -2,6 +2,8 @@
 // file of the code has their numbers. specs/Order says the same, and the contract of each function that
 // refuses holds the one to the other.
 
+#![tactic(auto)]
+
 // The line cannot be read.
 pub const MALFORMED: u32 = 14;
 

@@ -1,5 +1,7 @@
 // Fine rows rounded for the report: a row with all its figures, or what a sheet shows of it. Each function
 // equals a definition of model's specs/Fixed.
+#![tactic(auto)]
+
 ghost use Rattle.std.specs.Prelude.{◌≡◌, ℕ, ◌<◌, length, get_or};
 ghost use Rattle.tables.specs.Tables.{measures};
 ghost use Rattle.model.specs.Accuracy.{InRange};
@@ -21,6 +23,7 @@ pub fn at_least_one(y: u64) -> u64
 }
 
 // The fine row of a measure with all its figures. What is known of the measure only spares roots.
+#[tactic(auto, unfolding(model::specs::Fixed::report))]
 pub fn report_of(i: usize, f: Fine) -> Row
     requires { (i < measures) × FineInRange f }
     ensures { result ≡ report f }
@@ -37,6 +40,7 @@ pub fn report_of(i: usize, f: Fine) -> Row
 }
 
 // What a sheet shows of it, with one root.
+#[tactic(auto, unfolding(model::specs::Rows::shown_of, model::specs::Fixed::report))]
 pub fn shown_of(i: usize, f: Fine) -> Shown
     requires { (i < measures) × FineInRange f }
     ensures { result ≡ shown_of (report f) }
@@ -50,6 +54,7 @@ pub fn shown_of(i: usize, f: Fine) -> Shown
 }
 
 // The row of one measure.
+#[tactic(auto, using(model::proofs::Demand::fine_in_range), unfolding(model::specs::Fixed::row_fixed))]
 pub fn row_at(i: usize, x: Scenario) -> Row
     requires { (i < measures) × InRange x }
     ensures { result ≡ row_fixed i x }
@@ -58,6 +63,7 @@ pub fn row_at(i: usize, x: Scenario) -> Row
 }
 
 // What a sheet shows of one measure.
+#[tactic(auto, using(model::proofs::Demand::fine_in_range), unfolding(model::specs::Fixed::row_fixed))]
 pub fn shown_at(i: usize, x: Scenario) -> Shown
     requires { (i < measures) × InRange x }
     ensures { result ≡ shown_of (row_fixed i x) }
@@ -109,6 +115,7 @@ fn all_shown_of(fine: [Fine; MEASURES]) -> [Shown; MEASURES]
 }
 
 // The rows of all measures of a request.
+#[tactic(auto, using(model::proofs::Demand::fine_in_range), unfolding(model::specs::Fixed::row_fixed))]
 pub fn rows_of(x: Scenario) -> [Row; MEASURES]
     requires { InRange x }
     ensures { (length result ≡ measures) × ((k : ℕ) → k < measures → get_or result k no_row ≡ row_fixed k x) }
@@ -117,6 +124,7 @@ pub fn rows_of(x: Scenario) -> [Row; MEASURES]
 }
 
 // What a sheet shows of them.
+#[tactic(auto, using(model::proofs::Demand::fine_in_range), unfolding(model::specs::Fixed::row_fixed))]
 pub fn shown_rows_of(x: Scenario) -> [Shown; MEASURES]
     requires { InRange x }
     ensures { (length result ≡ measures) × ((k : ℕ) → k < measures → get_or result k no_shown ≡ shown_of (row_fixed k x)) }

@@ -1,12 +1,14 @@
 // A request: thirteen fields, each with its number and where that came from, or blank; and the tests that
 // look at one field alone. A completed request is the same record. Nothing here knows an estimate's rule or
 // the model.
+#![tactic(auto)]
+
 ghost use Rattle.std.specs.Prelude.{◌≡◌, ℤ, pos};
 ghost use Rattle.request.specs.Fields.{is_given, is_estimated, is_blank, value_of, size_of, within, allowed, marked};
 ghost use Rattle.request.specs.Styles.{style_of, top_magnitude};
 
 // One figure of a request: measured, inferred by the caller, estimated by us, or blank.
-#[derive(Drop)]
+#[derive(Clone, Copy)]
 pub enum Field {
     Measured(i64),
     Inferred(i64),
@@ -16,7 +18,7 @@ pub enum Field {
 
 // The figures in document 01's order: magnitude in hundredths, angles in degrees, Vs30 in m/s,
 // lengths and depths in metres.
-#[derive(Drop)]
+#[derive(Clone, Copy)]
 pub struct Request {
     pub m: Field,
     pub rake: Field,
@@ -34,7 +36,7 @@ pub struct Request {
 }
 
 // The style of faulting.
-#[derive(Drop)]
+#[derive(Clone, Copy)]
 pub enum Style {
     StrikeSlip,
     Reverse,
@@ -42,6 +44,7 @@ pub enum Style {
 }
 
 // Whether the caller gave the field, measured or inferred.
+#[tactic(auto, unfolding(crate::specs::Fields::is_given))]
 pub fn is_given(f: Field) -> bool
     ensures { result ≡ is_given f }
 {
@@ -54,6 +57,7 @@ pub fn is_given(f: Field) -> bool
 }
 
 // Whether the field is marked as estimated by us.
+#[tactic(auto, unfolding(crate::specs::Fields::is_estimated))]
 pub fn is_estimated(f: Field) -> bool
     ensures { result ≡ is_estimated f }
 {
@@ -66,6 +70,7 @@ pub fn is_estimated(f: Field) -> bool
 }
 
 // Whether the field is blank: neither given nor estimated.
+#[tactic(auto, unfolding(crate::specs::Fields::is_blank, crate::specs::Fields::is_given, crate::specs::Fields::is_estimated))]
 pub fn is_blank(f: Field) -> bool
     ensures { result ≡ is_blank f }
 {
@@ -73,6 +78,7 @@ pub fn is_blank(f: Field) -> bool
 }
 
 // The field's number, or 0.
+#[tactic(auto, unfolding(crate::specs::Fields::value_of))]
 pub fn value_of(f: Field) -> i64
     ensures { result ≡ value_of f }
 {
@@ -85,6 +91,7 @@ pub fn value_of(f: Field) -> i64
 }
 
 // Its size.
+#[tactic(auto, unfolding(crate::specs::Fields::size_of))]
 pub fn size_of(f: Field) -> u64
     ensures { result ≡ size_of f }
 {
@@ -92,6 +99,7 @@ pub fn size_of(f: Field) -> u64
 }
 
 // Whether the field is given and lies from low to high, both ends included.
+#[tactic(auto, unfolding(crate::specs::Fields::within))]
 pub fn is_within(f: Field, low: i64, high: i64) -> bool
     ensures { result ≡ within f low high }
 {
@@ -106,6 +114,7 @@ pub fn is_within(f: Field, low: i64, high: i64) -> bool
 }
 
 // Whether the field is blank, or is given and lies from low to high.
+#[tactic(auto, unfolding(crate::specs::Fields::allowed))]
 pub fn is_allowed(f: Field, low: i64, high: i64) -> bool
     ensures { result ≡ allowed f low high }
 {
@@ -116,6 +125,7 @@ pub fn is_allowed(f: Field, low: i64, high: i64) -> bool
 }
 
 // Whether any field is marked as estimated by us.
+#[tactic(auto, unfolding(crate::specs::Fields::marked))]
 pub fn is_marked(r: Request) -> bool
     ensures { result ≡ marked r }
 {
@@ -148,6 +158,7 @@ pub fn is_marked(r: Request) -> bool
 }
 
 // The style that a rake stands for: both ranges are open.
+#[tactic(auto, unfolding(crate::specs::Styles::style_of))]
 pub fn style_of(rake: i64) -> Style
     ensures { result ≡ style_of rake }
 {
@@ -168,6 +179,7 @@ pub fn style_by_rake(f: Field) -> Style
 }
 
 // Whether the magnitude, in hundredths, is given and lies in the range of its style.
+#[tactic(auto, unfolding(crate::specs::Styles::top_magnitude))]
 pub fn is_magnitude(f: Field, s: Style) -> bool
     ensures { result ≡ within f (pos 400) (top_magnitude s) }
 {

@@ -1,5 +1,7 @@
 // A request written as a line of text, as `text` reads it, into lent bytes from a place on. Each function
 // that writes returns the place after what it wrote, and leaves every other byte as it was.
+#![tactic(auto)]
+
 ghost use Rattle.std.specs.Prelude.{◌≡◌, ◌∷◌, [], ◌++◌, ◌+◌, ◌≤◌, length};
 ghost use Rattle.lent.specs.Lent.{Written};
 ghost use Rattle.numerals.specs.Render.{lf};

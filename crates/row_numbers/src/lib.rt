@@ -1,4 +1,6 @@
 // A row as numbers in memory that a caller lends; and the row at a period of a line, laid there.
+#![tactic(auto)]
+
 ghost use Rattle.std.specs.Prelude.{◌≡◌, ◌+◌, ◌≤◌, length};
 ghost use Rattle.lent.specs.Lent.{Written};
 ghost use Rattle.text.specs.Grammar.{line_of};

@@ -1,6 +1,8 @@
 // The rupture distance from the distance to its projection, RJB, and the azimuth: the equations of
 // Kaklamanos, Baise and Boore (2011). Each function equals a definition of crate geometry, whose proofs/
 // say how near that lies to the equations themselves.
+#![tactic(auto)]
+
 mod plan;
 mod section;
 

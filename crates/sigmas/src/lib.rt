@@ -1,5 +1,7 @@
 // The sigmas (14 to 18), from variances in units of 10^-9. Each function equals a definition of model's
 // specs/Fixed.
+#![tactic(auto)]
+
 mod known;
 
 ghost use Rattle.std.specs.Prelude.{◌≡◌, ◌≤◌, ◌<◌, nat_abs};

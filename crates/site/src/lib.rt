@@ -1,6 +1,8 @@
 // The site's response: A1100 and what is made of it, once for a request; what the measures of one k1
 // share; the site's term (11) and alpha (17), in units of 10^-9. Each function equals a definition of
 // model's specs/Fixed or of specs/Sharing.
+#![tactic(auto)]
+
 mod rock;
 
 ghost use Rattle.std.specs.Prelude.{◌≡◌, ◌≤◌, ◌<◌, nat_abs};
@@ -23,7 +25,7 @@ const N: i64 = 118;
 
 // What the measures of one k1 see of the soil: ln(V/k1), and below k1 by how much the logarithm and
 // the share of A1100 differ from those on rock.
-#[derive(Drop)]
+#[derive(Clone, Copy)]
 pub struct Soil {
     pub k1: u16,
     pub ratio: i64,

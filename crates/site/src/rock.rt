@@ -22,7 +22,7 @@ const SITE_C: u64 = C * 10_000_000;
 const SITE_1100: i64 = -82_069_920;
 
 // A1100 is `pga`; with it ln(A1100 + c) and A1100/(A1100 + c).
-#[derive(Drop)]
+#[derive(Clone, Copy)]
 pub struct Rock {
     pub pga: u64,
     pub log: i64,

@@ -1,5 +1,5 @@
 -- What is written for lines one after another is written for each. Assumes nothing.
-use Prim.Native.Nat.{ℕ, ◌+◌}
+use Prim.Native.Nat.{ℕ}
 use mathlib.Core.Path.{◌≡◌, refl, sym, ap, ◌∙◌}
 use mathlib.Core.List.{List, [], ◌∷◌, ◌++◌, append_assoc}
 use Rattle.request.specs.declared.Request.{Request}
@@ -8,7 +8,7 @@ use Rattle.text.specs.declared.read.Line.{Line}
 use Rattle.text.specs.declared.read.Line.TheVariants as L
 use Rattle.request_lines.specs.RequestText.{line_text, list_text}
 use Rattle.records.specs.Records.{record_of}
-use Rattle.list_lines.specs.ListLines.{requests_in}
+use Rattle.list_lines.specs.ListLines.{lines_of, requests_in}
 use Rattle.site_files.specs.Format.{records_of}
 
 requests-append : (ls ms : List Line) → requests_in (ls ++ ms) ≡ requests_in ls ++ requests_in ms
@@ -33,3 +33,7 @@ records_append ls ms = ap records_of (requests-append ls ms) ∙ records_join (r
 
 pub text_append : (ls ms : List Line) → list_text (requests_in (ls ++ ms)) ≡ list_text (requests_in ls) ++ list_text (requests_in ms)
 text_append ls ms = ap list_text (requests-append ls ms) ∙ text_join (requests_in ls) (requests_in ms)
+
+-- the records of a list's lines
+abbrev pub records_at : List ℕ → List ℕ
+records_at s = records_of (requests_in (lines_of s))

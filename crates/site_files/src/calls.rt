@@ -9,6 +9,7 @@ use crate::head::count_in;
 use lent::Wrote;
 
 // Tells of what was written: 0 and how many bytes, or the refusal's number.
+#[tactic(auto, unfolding(crate::specs::Given::told))]
 pub fn tell(w: Wrote, wrote: &mut u64) -> u32
     ensures { (result, wrote.new) ≡ told w wrote.old }
 {

@@ -4,7 +4,7 @@ ghost use Rattle.lent.specs.Lent.{Written};
 ghost use Rattle.list_lines.specs.ListLines.{lines_of, requests_in};
 ghost use Rattle.site_files.specs.Format.{records_of};
 
-use bytes::scan::find;
+use list_lines::line_end;
 use records::put_record;
 use text::{Line, read_line};
 
@@ -27,7 +27,7 @@ pub fn put_records(b: &mut [u8], first: usize, list: &[u8]) -> usize
     let mut p = first;
     let mut at = 0usize;
     while at < list.len() {
-        let e = find(list, at, list.len(), b'\n');
+        let e = line_end(list, at);
         if e == list.len() {
             return p;
         }

@@ -40,6 +40,7 @@ fn begins_with(s: &[u8], t: &[u8]) -> bool
 }
 
 // Whether a file has the mark and the version.
+#[tactic(auto, unfolding(crate::specs::Format::is_marked, crate::specs::Format::beginning, numerals::specs::Render::ascii, records::specs::Records::high_first))]
 pub fn is_marked(s: &[u8]) -> bool
     ensures { result ≡ is_marked s.now }
 {
@@ -47,6 +48,7 @@ pub fn is_marked(s: &[u8]) -> bool
 }
 
 // The count of a file's records.
+#[tactic(auto, unfolding(crate::specs::Format::count_in))]
 pub fn count_in(s: &[u8]) -> usize
     requires { head_size ≤ length s.now }
     ensures { (result ≡ count_in s.now) × (result ≤ most_records) }

@@ -1,5 +1,7 @@
 // A file for site lists, written from request lines and read into them, in lent bytes. A refusal changes none
 // of them.
+#![tactic(auto)]
+
 mod calls;
 mod files;
 mod from_lines;

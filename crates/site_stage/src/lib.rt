@@ -1,4 +1,6 @@
 // The site: the depth Z2.5 of the basin below it.
+#![tactic(auto)]
+
 ghost use Rattle.std.specs.Prelude.{◌≡◌, ◌≤◌};
 ghost use Rattle.request.specs.Fields.{size_of};
 ghost use Rattle.outcome.specs.Figures.{basin_of, z25};
@@ -11,6 +13,7 @@ use outcome::{FigureAnswer, estimated_figure};
 use request::{Field, Request, is_allowed, is_blank, is_given, size_of};
 
 // The refusal that reads a given depth of the site.
+#[tactic(auto, unfolding(refusals::specs::Order::first, outcome::specs::Refusals::site_given))]
 fn site_refusal(r: Request) -> u32
     ensures { result ≡ first (site_given r) }
 {
@@ -30,6 +33,7 @@ fn site_refusal(r: Request) -> u32
 }
 
 // The estimate of Z2.5: from Z1.5 if that is given, else from Z1.0 if that is, else from Vs30.
+#[tactic(auto, unfolding(outcome::specs::Figures::basin_of))]
 fn basin_estimate(z15: Field, z10: Field, vs30: u64) -> u64
     requires { (size_of z15 ≤ 10000) × (size_of z10 ≤ 10000) × (150 ≤ vs30) × (vs30 ≤ 1500) }
     ensures { result ≡ basin_of z15 z10 vs30 }

@@ -1,4 +1,6 @@
 // The size of a signed number.
+#![tactic(auto)]
+
 ghost use Rattle.std.specs.Prelude.{◌≡◌, nat_abs};
 
 // The size of z. It has no bound to ask for: of the lowest i64, too, the size is a u64.

@@ -1,4 +1,6 @@
 // The source of the shaking: magnitude, style, dip, width and depth of the rupture.
+#![tactic(auto)]
+
 ghost use Rattle.std.specs.Prelude.{◌≡◌, ◌/◌, ◌≤◌};
 ghost use Rattle.request.specs.Fields.{size_of};
 ghost use Rattle.rules.specs.Rules.{dip_of};
@@ -15,6 +17,7 @@ use request::{
 };
 
 // The first refusal that reads a given figure of the source, or Vs30, which stands among them.
+#[tactic(auto, unfolding(refusals::specs::Order::first, outcome::specs::Refusals::source_given, outcome::specs::Figures::style))]
 fn source_refusal(r: Request) -> u32
     ensures { result ≡ first (source_given r) }
 {
@@ -49,6 +52,7 @@ fn source_refusal(r: Request) -> u32
     0
 }
 
+#[tactic(auto, using(rules::proofs::Ranges::dip_of_range), unfolding(outcome::specs::Figures::or_estimate))]
 fn complete_dip(f: Field, s: Style) -> Field
     ensures { result ≡ or_estimate f (dip_of s) }
 {
@@ -58,6 +62,7 @@ fn complete_dip(f: Field, s: Style) -> Field
     estimated_figure(dip_estimate(s))
 }
 
+#[tactic(auto, unfolding(outcome::specs::Figures::or_estimate))]
 fn complete_width(f: Field, s: Style, m: u64) -> Field
     requires { (400 ≤ m) × (m ≤ 850) }
     ensures { result ≡ or_estimate f (width_fixed s m) }
@@ -69,6 +74,7 @@ fn complete_width(f: Field, s: Style, m: u64) -> Field
 }
 
 // The depth of the hypocentre in tenths of a metre, as the top of the rupture reads it.
+#[tactic(auto, unfolding(outcome::specs::Figures::tenths_of))]
 fn hypocentre_tenths(f: Field, s: Style, m: u64) -> u64
     requires { (400 ≤ m) × (m ≤ 850) × (size_of f ≤ 30000) }
     ensures { result ≡ tenths_of f s m }
@@ -80,6 +86,7 @@ fn hypocentre_tenths(f: Field, s: Style, m: u64) -> u64
 }
 
 // The same in whole metres, the tenth cut off where it is estimated.
+#[tactic(auto, unfolding(outcome::specs::Figures::or_estimate))]
 fn complete_hypocentre(f: Field, tenths: u64) -> Field
     ensures { result ≡ or_estimate f (tenths / 10) }
 {
@@ -89,6 +96,7 @@ fn complete_hypocentre(f: Field, tenths: u64) -> Field
     estimated_figure(tenths / 10)
 }
 
+#[tactic(auto, unfolding(outcome::specs::Figures::or_estimate))]
 fn complete_top(f: Field, tenths: u64, w: u64, dip: u64) -> Field
     requires { (tenths ≤ 300000) × (w ≤ 100000) × (dip ≤ 90) }
     ensures { result ≡ or_estimate f (top_fixed tenths w dip) }

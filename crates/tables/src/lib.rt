@@ -1,6 +1,8 @@
 // The numbers of the model: Tables 2 and 3 of Campbell and Bozorgnia 2008, constants of the program.
 // Every number is in thousandths, save k1, which is in m/s.
 
+#![tactic(auto)]
+
 mod periods;
 mod table2;
 mod table3;
@@ -19,7 +21,7 @@ pub const PERIODS: usize = 21;
 pub const PGA: usize = 21;
 
 // A row of Table 2, each field under the paper's name.
-#[derive(Drop)]
+#[derive(Clone, Copy)]
 pub struct Coefficients {
     pub c0: i16,
     pub c1: i16,
@@ -41,7 +43,7 @@ pub struct Coefficients {
 
 // A row of Table 3: the intra-event, inter-event and component deviations, the total and the
 // arbitrary component's of a site with a linear response, and the correlation with PGA.
-#[derive(Drop)]
+#[derive(Clone, Copy)]
 pub struct Deviations {
     pub s: u16,
     pub t: u16,

@@ -7,6 +7,7 @@ use crate::Coefficients;
 // The row of a measure: the 21 periods, PGA, PGV, PGD. A row by its number, since the compiler keeps such
 // a choice as constants, where it would build an array anew for each call. The last arm is PGD's: no other
 // number is asked for.
+#[tactic(auto, unfolding(crate::specs::Tables::coefficients_at, crate::specs::Tables::table2))]
 pub fn coefficients_at(i: usize) -> Coefficients
     requires { i < measures }
     ensures { result ≡ coefficients_at i }

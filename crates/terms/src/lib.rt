@@ -1,5 +1,7 @@
 // The terms of the median that read no soil, in units of 10^-9: magnitude, distance, style of faulting,
 // hanging wall and basin. Each function equals a definition of model's specs/Fixed.
+#![tactic(auto)]
+
 ghost use Rattle.std.specs.Prelude.{◌≡◌, ◌-◌, ◌≤◌, pos, nat_abs};
 ghost use Rattle.model.specs.Equations.{f_flt_z};
 ghost use Rattle.model.specs.Accuracy.{InRange};
@@ -15,7 +17,7 @@ use request::Style;
 use tables::Coefficients;
 
 // The logarithm of RRUP² + c6², for the measures of one c6.
-#[derive(Drop)]
+#[derive(Clone, Copy)]
 pub struct Path {
     pub c6: u16,
     pub ln: i64,

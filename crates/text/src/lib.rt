@@ -1,5 +1,7 @@
 // The text form of a request: the bytes of a line to the request that they stand for. Nothing here
 // knows an estimate or the model.
+#![tactic(auto)]
+
 mod figures;
 mod read;
 

@@ -1,14 +1,21 @@
 // A file that appears whole or not at all: it is made under a name of its own in its target's folder, brought
 // to the disk and then renamed, so that until then an old target stays as it is.
-ghost use Rattle.std.specs.Prelude.{◌≤◌, length};
+#![tactic(auto)]
+
+ghost use Rattle.std.specs.Prelude.{◌≡◌, ◌≤◌, length};
 ghost use Rattle.lent.specs.Lent.{Written};
 ghost use Rattle.whole_files.specs.Names.{longest_path, name_room, name_of};
 
 use cuts::up_to_last;
+use failures::say_failed;
 use lent::put_text;
-use libc::STDERR_FILENO;
 use numerals::{put_ended, put_number};
-use sizes::size_of;
+use std::fs::{File, OpenFile};
+use std::io::ErrorKind;
+use std::process::Process;
+use std::rt::Files;
+use std::str::from_utf8;
+use std::{fs, io, process};
 
 // How many bytes hold any name: a path, and what is put behind its folder.
 pub const NAME: usize = 4160;
@@ -19,10 +26,10 @@ pub const PATH: usize = 4096;
 // How often a name is tried: another process with this one's number may have left some.
 const TRIES: u64 = 100;
 
-// A file that was begun: its descriptor, below 0 where it could not be, and the length of its name.
+// A file that was begun, or why it could not be, and the length of its name.
 #[derive(Drop)]
-pub struct Begun {
-    pub file: i32,
+pub struct Begun<F> {
+    pub file: io::Result<F>,
     pub length: usize,
 }
 
@@ -38,83 +45,122 @@ fn put_name(name: &mut [u8], target: &[u8], process: u64, attempt: u64) -> usize
     put_number(name, r, attempt)
 }
 
-// Whether a file could not be made since its name is another's, by what making it answered.
-fn is_taken(file: i32) -> bool {
-    if file < 0 {
-        return os::errno() == libc::EEXIST;
+// A name as text, as the system's calls take it.
+fn text_of(name: &[u8]) -> io::Result<&str> {
+    match from_utf8(name) {
+        Ok(text) => Ok(text),
+        Err(_) => Err(io::Error::from(ErrorKind::InvalidFilename)),
     }
-    false
+}
+
+// Makes a new file under a name.
+fn create<R: Files>(rt: &R, name: &[u8]) -> io::Result<R::File> {
+    let mut options = File::options();
+    options
+        .write(true)
+        .create_new(true)
+        .open(rt, text_of(name)?)
+}
+
+// Opens a folder to read.
+fn open_folder<R: Files>(rt: &R, folder: &[u8]) -> io::Result<R::File> {
+    fs::open(rt, text_of(folder)?)
+}
+
+// Takes a name away. Whether it can be changes nothing.
+fn remove(rt: &impl Files, name: &[u8]) {
+    if let Ok(path) = text_of(name) {
+        let _ = fs::remove_file(rt, path);
+    }
+}
+
+// Gives what stands under a name its target's.
+fn rename(rt: &impl Files, name: &[u8], target: &str) -> io::Result<()> {
+    fs::rename(rt, text_of(name)?, target)
+}
+
+// Whether a file could not be made since its name is another's, by what making it answered.
+fn is_taken<F>(file: &io::Result<F>) -> bool {
+    match file {
+        Ok(_) => false,
+        Err(error) => error.kind() == ErrorKind::AlreadyExists,
+    }
+}
+
+// Makes a new file for a target under the name of one attempt.
+fn attempt_at<R: Files>(
+    rt: &R,
+    target: &[u8],
+    name: &mut [u8],
+    process: u64,
+    attempt: u64,
+) -> Begun<R::File>
+    requires { (length target.now ≤ longest_path) × (name_room ≤ length name.old) }
+    ensures { (length name.new ≡ length name.old) × (result.length ≤ length name.new) }
+{
+    let n = put_name(name, target, process, attempt);
+    Begun {
+        file: create(rt, &name[..n]),
+        length: n,
+    }
 }
 
 // Makes a new file for a target, under a name of its own that goes into lent bytes.
-pub fn begin(target: &[u8], name: &mut [u8]) -> Begun
+pub fn begin<R: Files>(rt: &R, process: Process, target: &str, name: &mut [u8]) -> Begun<R::File>
     requires { (length target.now ≤ longest_path) × (name_room ≤ length name.old) }
     ensures { result.length ≤ length name.new }
 {
-    let process = size_of(libc::getpid() as i64);
-    let mut attempt = 0u64;
-    while attempt < TRIES {
-        let n = put_name(name, target, process, attempt);
-        let file = os::create(&name[..n]);
-        if !is_taken(file) {
-            return Begun {
-                file: file,
-                length: n,
-            };
+    let target = target.as_bytes();
+    let number = u64::from(process::id(process));
+    let mut begun = attempt_at(rt, target, name, number, 0);
+    for attempt in 1..TRIES {
+        if !is_taken(&begun.file) {
+            break;
         }
-        attempt += 1;
+        begun = attempt_at(rt, target, name, number, attempt);
     }
-    Begun {
-        file: -1,
-        length: 0,
-    }
+    begun
 }
 
 // Takes a file that was begun away again.
-pub fn discard(file: i32, name: &[u8]) {
-    libc::close(file);
-    os::unlink(name);
+pub fn discard<R: Files>(rt: &R, file: R::File, name: &[u8]) {
+    drop(file);
+    remove(rt, name);
 }
 
 // Brings what a folder lists to the disk. Not every system can, and then nothing is lost but time.
-fn sync_folder(target: &[u8]) {
+fn sync_folder(rt: &impl Files, target: &str) {
+    let target = target.as_bytes();
     let end = up_to_last(target, b'/');
-    let folder = if end == 0 {
-        os::open_read(b".")
+    let opened = if end == 0 {
+        fs::open(rt, ".")
     } else {
-        os::open_read(&target[..end])
+        open_folder(rt, &target[..end])
     };
-    if 0 <= folder {
-        libc::fsync(folder);
-        libc::close(folder);
+    if let Ok(folder) = opened {
+        let _ = folder.sync_all();
     }
 }
 
 // Brings a file that was begun to the disk and gives it its target's name, or says why it cannot and takes
 // it away.
-pub fn keep(file: i32, name: &[u8], target: &[u8]) -> bool {
-    if libc::fsync(file) < 0 {
-        os::fail(target);
-        discard(file, name);
+pub fn keep<R: Files + Eprint>(rt: &R, file: R::File, name: &[u8], target: &str) -> bool {
+    if let Err(error) = file.sync_all() {
+        say_failed(rt, target, error);
+        discard(rt, file, name);
         return false;
     }
-    if libc::close(file) < 0 {
-        os::fail(target);
-        os::unlink(name);
+    drop(file);
+    if let Err(error) = rename(rt, name, target) {
+        say_failed(rt, target, error);
+        remove(rt, name);
         return false;
     }
-    if os::rename(name, target) < 0 {
-        os::fail(target);
-        os::unlink(name);
-        return false;
-    }
-    sync_folder(target);
+    sync_folder(rt, target);
     true
 }
 
 // Says a refusal's number on standard error, as the line "no N".
-pub fn say_no(n: u32) {
-    io::write_all(STDERR_FILENO, b"no ");
-    io::print_decimal(STDERR_FILENO, n as u64);
-    io::write_all(STDERR_FILENO, b"\n");
+pub fn say_no(rt: &impl Eprint, n: u32) {
+    let _ = eprintln!(rt; "no {n}");
 }

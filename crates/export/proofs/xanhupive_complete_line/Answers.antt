@@ -1,0 +1,6 @@
+-- The answer on the sheet of completion is written and counted.
+use Rattle.export.proofs.LineLaws.{line-given}
+use Rattle.export.proofs.xanhupive_complete_line.Goals as goal
+
+pub returns : goal.returns
+returns c = line-given c.count_of.result c.answer_line.ensures c.count_of.ensures

@@ -1,0 +1,6 @@
+-- What was read is answered.
+use Rattle.filter.proofs.TurnLaws.{of_read}
+use Rattle.filter.proofs.read_block.Goals as goal
+
+pub returns : goal.returns
+returns g c = of_read c.read-got.result c.read-got.new.buf c.answer_read.ensures

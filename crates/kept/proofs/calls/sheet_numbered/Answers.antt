@@ -1,0 +1,16 @@
+-- By the number. Assumes nothing.
+use borrow.Author.Tests.{eq-eqb, ne_eqb}
+use Rattle.kept.specs.Calls.{numbered}
+use Rattle.kept.proofs.calls.sheet_numbered.Goals as goal
+
+pub returns-then-n-eq0 : goal.returns-then-n-eq0
+unfolding numbered
+returns-then-n-eq0 c = rw (eq-eqb c.args.n 0 c.if-n-eq0.true)
+
+pub returns-then-n-eq1 : goal.returns-then-n-eq1
+unfolding numbered
+returns-then-n-eq1 c = rw (ne_eqb c.args.n 0 c.if-n-eq0.false, eq-eqb c.args.n 1 c.if-n-eq1.true)
+
+pub returns : goal.returns
+unfolding numbered
+returns c = rw (ne_eqb c.args.n 0 c.if-n-eq0.false, ne_eqb c.args.n 1 c.if-n-eq1.false)

@@ -1,0 +1,4 @@
+use Rattle.reckon.proofs.sine.+alternate.Given as goal
+
+abbrev pub decreases-alternate : goal.decreases-alternate
+decreases-alternate l = l.n
