@@ -19,7 +19,7 @@ import sys
 PARTS = {
     "text form": "text numerals lines answer lists kept lent",
     "site files": "fields request_lines records list_lines site_files record_answers bytes",
-    "completion": "request rules estimate rupture outcome source_stage path_stage site_stage completion sizes",
+    "completion": "request rules estimate rupture outcome source_stage path_stage site_stage completion",
     "model": "factors terms site sigmas short_periods measures reports periods prediction one_period",
     "reckoning": "reckon",
     "calls": "row_numbers one_measure export controller",

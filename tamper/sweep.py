@@ -7,10 +7,10 @@ What it tries:
 
 - code: Tables 2 and 3, the periods, what follows from Table 3, the number that a row of these is found by, the refusals' numbers and
   limits, the styles (crates tables, sigmas, refusals, request, source_stage, path_stage, site_stage), the constants of the estimates and
-  of the rupture distance (estimate, rupture), the terms, the site, the sigmas, the short periods, the order of the measures, the report
-  and the row at any period (factors, terms, site, sigmas, short_periods, measures, reports, periods), the 64-bit functions (reckon), the
+  of the rupture distance (estimate, rupture), the terms, the site, the sigmas, the short periods, the report
+  and the row at any period (factors, terms, site, sigmas, short_periods, reports, periods), the 64-bit functions (reckon), the
   text form (text, numerals), a list in parts (lists, kept), site files (fields, cuts, request_lines, records, list_lines, site_files, the blocks
-  of file_streams), one period as text and as numbers (answer, row_numbers), how many arguments a program has (programs, file_programs). A contract's numbers are claims and no code: they are not altered;
+  of file_streams), one period as text and as numbers (answer, row_numbers), how many arguments a program has (programs, file_programs), its statuses (usage). A contract's numbers are claims and no code: they are not altered;
 - specs: every number of crates/*/specs but those of the table LEFT; one that neither a place nor LEFT names stops the script.
   --left tells which are left and why;
 - second: the constants, limits and tables of the second program, model.c and request.c with their headers; in main.c how a period is
@@ -43,7 +43,7 @@ NUMBER = re.compile(r"(?<![\w.])\d[\d_]*(?:\.\d+)?(?![\w.])")
 # Where a definition begins, by the kind of file: its name is in front of each of its lines when a pattern is looked for.
 HEADS = {
     ".antt": re.compile(r"^(?:unfoldable |abbrev )?pub (?:record |data )?([^\s:]+)"),
-    ".rt": re.compile(r"^(?:pub )?(?:fn|const|struct|enum) (\w+)"),
+    ".rt": re.compile(r"^\s*(?:pub )?(?:fn|const|struct|enum) (\w+)"),
     ".c": re.compile(r"^(?:#define |[a-z].*?\b(?=\w+[\[(]))(\w+)"),
     ".h": re.compile(r"^#define (\w+)"),
 }
@@ -67,13 +67,13 @@ EVERY = re.compile("")
 PLACES = [
     ("code", "crates/tables/src/table2.rt", re.compile(r":\s+(c\d+|k[123]): -?[\d_]+,"), "tables"),
     ("code", "crates/tables/src/table3.rt", re.compile(r":\s+(s|t|sC|sT|sArb|rho): [\d_]+,"), "tables"),
-    ("code", "crates/source_stage/src/lib.rt", re.compile(r"if !is_(within|allowed)\(|if 15000 < "), "source_stage"),
-    ("code", "crates/path_stage/src/lib.rt", re.compile(r"is_(within|allowed)\(\w+, |if 200000 < |if 90 <= "), "path_stage"),
-    ("code", "crates/site_stage/src/lib.rt", re.compile(r"if !is_allowed\(|if 10000 < "), "site_stage"),
-    ("code", "crates/request/src/lib.rt", re.compile(r"=> is_within\(f, "), "request"),
+    ("code", "crates/source_stage/src/lib.rt", re.compile(r"\.is_(within|allowed)\(|if 15000 < "), "source_stage"),
+    ("code", "crates/path_stage/src/lib.rt", re.compile(r"\.is_(within|allowed)\(|if 200000 < |d < 90 "), "path_stage"),
+    ("code", "crates/site_stage/src/lib.rt", re.compile(r"\.is_allowed\(|if 10000 < "), "site_stage"),
+    ("code", "crates/request/src/lib.rt", re.compile(r"=> m\.is_within\("), "request"),
     ("code", "crates/periods/src/*.rt", EVERY, "periods"),
     ("specs", "crates/tables/specs/*.antt", re.compile(r":     row[23] "), "tables"),
-    ("specs", "crates/refusals/specs/*.antt", re.compile(r": \w+ = \d+$"), "refusals"),
+    ("specs", "crates/refusals/specs/*.antt", re.compile(r": number_of No\.\w+ = \d+$"), "refusals"),
     ("specs", "crates/outcome/specs/*.antt", of("source_given source_completed above_rupture path_given path_completed site_given site_completed"),
      "completion"),
     ("specs", "crates/request/specs/*.antt", of("top_magnitude"), "completion"),
@@ -85,19 +85,10 @@ PLACES = [
 
 # More places, of which a sample takes some of each kind only.
 MORE = [
-    # A refusal's number is held to the specs by the crate that refuses with it.
-    ("code", "crates/refusals/src/lib.rt", of("MARKED"), "completion"),
-    ("code", "crates/refusals/src/lib.rt", of("RAKE MAGNITUDE VS30 DIP WIDTH HYPOCENTRE TOP"), "source_stage"),
-    ("code", "crates/refusals/src/lib.rt", of("RJB AZIMUTH ABOVE RRUP TOO_SHORT TOO_FAR"), "path_stage"),
-    ("code", "crates/refusals/src/lib.rt", of("BASIN"), "site_stage"),
-    ("code", "crates/refusals/src/lib.rt", of("NO_MEASURE"), "prediction"),
-    ("code", "crates/refusals/src/lib.rt", of("NO_PERIOD"), "one_period"),
-    ("code", "crates/refusals/src/lib.rt", of("TOO_LONG"), "lines"),
-    ("code", "crates/refusals/src/lib.rt", of("MALFORMED"), "answer"),
-    ("code", "crates/refusals/src/lib.rt", of("NO_FILE FILE_LENGTH FILE_FIELD"), "site_files"),
-    ("code", "crates/request/src/lib.rt", of("style_of value_of"), "request"),
+    ("code", "crates/refusals/src/lib.rt", EVERY, "refusals"),
+    ("code", "crates/request/src/lib.rt", of("of_rake value"), "request"),
     ("code", "crates/source_stage/src/lib.rt", of("hypocentre_tenths complete_hypocentre"), "source_stage"),
-    ("code", "crates/path_stage/src/lib.rt", of("is_too_short one_less is_too_far"), "path_stage"),
+    ("code", "crates/path_stage/src/lib.rt", of("is_too_short is_too_far"), "path_stage"),
     ("code", "crates/estimate/src/*.rt", EVERY, "estimate"),
     ("code", "crates/rupture/src/*.rt", EVERY, "rupture"),
     ("code", "crates/factors/src/*.rt", EVERY, "factors"),
@@ -105,7 +96,6 @@ MORE = [
     ("code", "crates/site/src/*.rt", EVERY, "site"),
     ("code", "crates/sigmas/src/*.rt", EVERY, "sigmas"),
     ("code", "crates/short_periods/src/*.rt", EVERY, "short_periods"),
-    ("code", "crates/measures/src/*.rt", EVERY, "measures"),
     ("code", "crates/reports/src/*.rt", EVERY, "reports"),
     ("code", "crates/tables/src/periods.rt", EVERY, "tables"),
     # The number that a row is found by. One more is the next row's: its own arm is then never reached, which is refused before the
@@ -132,10 +122,10 @@ MORE = [
     ("code", "crates/answer/src/period.rt", EVERY, "answer"),
     ("code", "crates/row_numbers/src/*.rt", EVERY, "row_numbers"),
     ("code", "crates/programs/src/lib.rt", of("asked_of"), "programs"),
+    ("code", "crates/usage/src/lib.rt", of("Status"), "usage"),
     # The exact value is held to known values by `exact`; what 64-bit functions reckon is held to it by `fixed` and to code by `reckon`.
     ("specs", "crates/exact/specs/*.antt", EVERY, "fixed"),
     ("specs", "crates/fixed/specs/*.antt", EVERY, "reckon"),
-    ("specs", "crates/refusals/specs/*.antt", of("first"), "refusals"),
     ("specs", "crates/request/specs/*.antt", of("style_of value_of"), "request"),
     # What the rules and what the 64-bit functions read in common is only held to the code.
     ("specs", "crates/rules/specs/*.antt", EVERY, "estimate"),
@@ -147,7 +137,6 @@ MORE = [
     ("specs", "crates/model/specs/*.antt", of("is_short sixth_place"), "model"),
     # PGA's row is first asked for by the rock's motion.
     ("specs", "crates/tables/specs/*.antt", of("PGA"), "site"),
-    ("specs", "crates/measures/specs/*.antt", EVERY, "measures"),
     ("specs", "crates/model/specs/*.antt", of("wall_distance f_hng.* deep wall_distance_fixed wall_fixed deep_fixed"), "factors"),
     ("specs", "crates/model/specs/*.antt", of("by_magnitude f_mag.* slope f_dis.* ln_distance f_flt.* f_sed.*"), "terms"),
     ("specs", "crates/model/specs/*.antt", of("c100 n100 site_[cn].* curve.* linear f_site.* rock_pga.* alpha.* E2[4-8] times"), "site"),
@@ -158,9 +147,10 @@ MORE = [
     ("specs", "crates/between/specs/Periods.antt", of("covered"), "periods"),
     ("specs", "crates/between/specs/Periods.antt", EVERY, "between"),
     ("specs", "crates/site/specs/*.antt", EVERY, "site"),
-    ("specs", "crates/lent/specs/*.antt", of("number_of"), "row_numbers"),
+    # That an answer which is no refusal has the number 0 is held to the code by what C is answered.
+    ("specs", "crates/refusals/specs/*.antt", of("number_in"), "one_measure"),
     ("specs", "crates/lent/specs/*.antt", EVERY, "lent"),
-    ("specs", "crates/numerals/specs/*.antt", of("digit[09] digits_in value_of largest plain_of"), "numerals"),
+    ("specs", "crates/numerals/specs/*.antt", of("digit[09] digits_in digits_of largest plain_of"), "numerals"),
     ("specs", "crates/numerals/specs/*.antt", of("space minus"), "text"),
     ("specs", "crates/numerals/specs/*.antt", of("lf"), "lines"),
     ("specs", "crates/text/specs/*.antt", EVERY, "text"),
@@ -176,13 +166,10 @@ MORE = [
     ("specs", "crates/file_programs/specs/*.antt", of("asked_of Finished EndsAs"), "file_programs"),
     ("specs", "crates/lines/specs/*.antt", EVERY, "lines"),
     ("specs", "crates/prediction/specs/*.antt", of("rows_from rows_of spectrum_for"), "prediction"),
-    ("specs", "crates/prediction/specs/*.antt", of("refusal_in"), "one_measure"),
-    ("specs", "crates/answer/specs/*.antt", of("spectrum_lines"), "answer"),
     ("specs", "crates/lists/specs/*.antt", EVERY, "lists"),
     ("specs", "crates/kept/specs/*.antt", EVERY, "kept"),
-    ("specs", "crates/export/specs/*.antt", of("spectrum_refusal spectrum_after"), "export"),
-    ("specs", "crates/filter/specs/*.antt", of("status_of"), "filter"),
-    ("specs", "crates/programs/specs/*.antt", of("asked_of EndsAs"), "programs"),
+    ("specs", "crates/programs/specs/*.antt", of("asked_of"), "programs"),
+    ("specs", "crates/usage/specs/*.antt", of("number_of EndsAs"), "usage"),
     ("second", "second/model.c", of("C N ROCK SIGMA_AF PERIOD is_short f_mag f_flt f_hng_r f_hng_m f_hng f_sed rock_pga slope intra_squared"), None),
     ("second", "second/[mr]*.h", re.compile(r": #define "), None),
     ("second", "second/main.c", re.compile(r"^(PERIOD_DIGITS|row_of|parse_period|period_before): (?!.*(for \(|digits = 0|return [01];))"), None),
@@ -199,18 +186,14 @@ DOWN = [
     ("crates/estimate/src/*", r"if v < 180", "at 180 both rules give 6.745"),
     ("second/request.c", r"v < 180", "at 180 both rules give 6.745"),
     ("crates/model/specs/*", r"^f_flt_z: .*ltb ztor 1000", "at 1 km both branches give 1 km"),
-    ("crates/terms/src/*", r"^f_flt_z: .*if ztor < 1_000", "at 1 km both branches give 1 km"),
     ("crates/model/specs/*", r"ltb m 650", "at 6.5 both branches give 1"),
-    ("crates/factors/src/*", r"m < 650", "at 6.5 both branches give 1"),
     ("crates/model/specs/*", r"^f_sed\w*: .*ltb z 1000", "at 1 km both branches give 0"),
     ("crates/terms/src/*", r"^f_sed: .*if z < 1_000", "at 1 km both branches give 0"),
-    ("crates/site/src/*", r"if v < 1_100", "at 1100 both branches give 1100"),
     ("crates/model/specs/*", r"^rock_pga\w*: .* x 1100", "from 1100 up the site term stays the same"),
     ("crates/model/specs/*", r"^is_short: .*0_250", "no period lies between 0.25 and 0.30 s"),
     ("second/model.c", r"^is_short: .*0\.25", "no period lies between 0.25 and 0.30 s"),
     ("crates/fixed/specs/*", r"ln_halved 18|ln_doubled 6", "the most halvings that a number can ask for: one more is never taken"),
     ("crates/reckon/src/*", r"if twos < 32", "at 32 both branches shift by nothing"),
-    ("crates/path_stage/src/*", r"^one_less: .*if n < 1", "at 1 both branches give 0"),
     ("second/main.c", r"PERIOD_DIGITS 20", "twenty-one digits are more than 64 bits hold, which is tested too"),
     ("*", r"'9'", "10 is no byte"),
 ]
@@ -218,10 +201,8 @@ DOWN = [
 # Not tried: neither one more nor one less changes an answer to any request, or only by what the comparison must allow.
 SAME = [
     ("crates/model/specs/*", r"(?<=x 1100 )0", "the A1100 of the rock's own site term, which its branch does not read"),
-    ("crates/sigmas/src/*", r"if alpha == 0|if more < 0", "what it spares gives the same"),
-    ("crates/measures/src/*", r"^fine_rows_of:  +\w+: 0", "what fills an array before every row is written over"),
-    ("crates/reports/src/*", r"^(reports_of|all_shown_of):  +\w+: 0", "what fills an array before every row is written over"),
-    ("crates/kept/src/*", r"\[0u8; LONGEST\]", "what fills an array before every byte is written over"),
+    ("crates/sigmas/src/*", r"if alpha == 0|\.max\(0\)", "what it spares gives the same"),
+    ("crates/kept/src/*", r"\[0; LONGEST\]", "what fills an array before every byte is written over"),
     ("crates/text/specs/*", r"(?<=get_or s 0 )0", "the byte of an empty word: no byte that is asked for"),
     ("crates/numerals/specs/*", r"(?<=get_or s 0 )0", "the byte past an end, which is not read"),
     ("crates/lines/specs/*", r"(?<=get_or [ls] \d )0", "the byte past an end, where none is"),
@@ -256,15 +237,14 @@ LEFT = [
     ("crates/answer/specs/*", r"^longest_(line|period): .*", PROMISE),
     ("crates/tables/specs/*", r"^RootOf: .*", PROMISE),
     ("crates/refusals/specs/*", r"^up_to: .*", PROMISE),
-    ("crates/text/specs/*", r"^number_of: number_of \(L\.Is r\) = 0", "0 for no refusal: only the number of a malformed line is read"),
-    ("crates/lines/specs/*", r"^or_zero: or_zero N\.Malformed = 0", "0 for what is no number: no line that was written has it"),
+    ("crates/lines/specs/*", r"^plain: .*0$", "0 for what is no number: no line that was written has it"),
     ("crates/text/specs/*", r"^field_at: .*", "past the end of a list: never read"),
     ("crates/tables/specs/*", r"^no_(coefficients|deviations): .*|get_or periods i 0", "past the end of a list: never read"),
     ("crates/tables/specs/*", r"^neg: .*", "-0: no number is printed so"),
     ("crates/model/specs/*", r"^no_(fine|shown): .*", "past the end of a list: never read"),
     ("crates/examples/specs/*", r".*", "document 01's examples: the test itself"),
     ("crates/whole_files/specs/*", r"^(longest_path|name_room): .*", PROMISE),
-    ("crates/*programs/specs/*", r"^(EndsAs|Finished): .*≤ 1", "the bound of an exit status: programs/test and programs/test_files try which it is"),
+    ("crates/usage/specs/*", r"^EndsAs: .*≤ 1", "the bound of an exit status: programs/test and programs/test_files try which it is"),
 ]
 
 

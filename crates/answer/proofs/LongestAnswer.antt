@@ -1,20 +1,21 @@
 -- No answer line is longer than 38 bytes, its LF counted, nor that of a period than 41: an accepted request's figures lie in their
--- ranges, its rows' too, and no refusal of a line has more than two digits. Assumes nothing.
+-- ranges, its rows' too, and no refusal has more than two digits. Assumes nothing.
 use Prim.Native.Nat.{ℕ, zero, suc, ◌+◌, ◌*◌, ◌^◌, ◌≤◌, ◌<◌}
-use mathlib.Core.Path.{◌≡◌, refl, sym, ap, ◌∙◌}
+use mathlib.Core.Path.{◌≡◌, refl, subst}
 use mathlib.Core.Bool.{Bool, true, false}
 use mathlib.Core.List.{List}
 use native.Mathlib.Omega.{arith}
-use lib.Dec.{eqb}
 use lib.ListN.{length, get_or, length-append}
-use borrow.Author.Tests.{eqb-true, eqb-false}
-use Rattle.refusals.specs.Order as No
+use Rattle.std.specs.Prelude.{Option, Some, None, Result, Ok, Err}
+use Rattle.refusals.specs.declared.Refusal.{Refusal}
+use Rattle.refusals.specs.declared.Refusal.TheVariants as No
+use Rattle.refusals.specs.Order.{number_of, unless}
+use Rattle.refusals.proofs.Numbers.{number-most}
 use Rattle.request.specs.declared.Request.{Request}
 use Rattle.request.specs.Fields.{size_of}
-use Rattle.outcome.specs.declared.Completion.TheVariants as C
-use Rattle.outcome.specs.Refusals.{rows, refusal}
-use Rattle.outcome.specs.Answers.{completed, answer, completion_of, number_of}
-use Rattle.outcome.proofs.ExactlyWhen.{stages, number_is, number_most}
+use Rattle.outcome.specs.Refusals.{refusal}
+use Rattle.outcome.specs.Answers.{completed, completion_of}
+use Rattle.outcome.proofs.ExactlyWhen.{stages}
 use Rattle.outcome.proofs.Ranges.{source_range, source_given_lem, top_range}
 use Rattle.outcome.proofs.SentBackWhole.{rrup-high, site_rows_lem}
 use Rattle.tables.specs.Tables.{measures}
@@ -22,14 +23,12 @@ use Rattle.model.specs.declared.Shown.{Shown}
 use Rattle.model.specs.Rows.{shown_of, no_shown}
 use Rattle.between.specs.Periods.{covered}
 use Rattle.between.specs.Fixed.{row_at}
-use Rattle.prediction.specs.Spectra.{scenario_of, shown_spectrum_of}
+use Rattle.prediction.specs.Spectra.{scenario_of, shown_spectrum_of, rows_in}
 use Rattle.prediction.specs.Sizes.{ShownSmall}
-use Rattle.prediction.proofs.DemandThree.{shown_small, shown_rows_small, shown_number, number_handed_on}
+use Rattle.prediction.proofs.DemandThree.{shown_small, shown_rows_small}
 use Rattle.prediction.proofs.RowLaws.{by_completion}
 use Rattle.one_period.specs.OnePeriods.{period_of}
 use Rattle.one_period.proofs.PeriodLaws.{period_refused, period_none, period_row, covered-high, value-small}
-use Rattle.text.specs.declared.read.Line.{Line}
-use Rattle.text.specs.declared.read.Line.TheVariants as L
 use Rattle.text.specs.Grammar.{line_of}
 use Rattle.numerals.proofs.RenderLaws.{length-render, length-signed}
 use Rattle.lines.specs.Lines.{ok_line, no_line, completion_line}
@@ -38,17 +37,13 @@ use Rattle.answer.specs.declared.Sheet.{Sheet}
 use Rattle.answer.specs.declared.Sheet.TheVariants as S
 use Rattle.answer.specs.RowLines.{row_line, row_lines, spectrum_lines, period_line}
 use Rattle.answer.specs.Sheets.{sheet_of, reply_of, answer_to, longest_line, longest_period, longest_answer}
-use Rattle.answer.proofs.RowLaws.{length_row, refused-line, good-lines}
+use Rattle.answer.proofs.RowLaws.{length_row}
 
 -- ---- the lines
--- the number of a refused completion
-refused_number : (r : Request) (n : ℕ) → completion_of r ≡ C.Refused n → n ≤ 99
-refused_number r n e = let k : refusal r ≡ n = sym (number_is r) ∙ ap number_of e in omega (arith, number_most r)
+no_short : (n : Refusal) → length (no_line n) ≤ longest_line
+no_short n = omega (arith, length_no n, length-render 1 (number_of n) (omega (arith, number-most n)))
 
-no_short : (n : ℕ) → n ≤ 99 → length (no_line n) ≤ longest_line
-no_short n h = omega (arith, length_no n, length-render 1 n (omega arith))
-
-ok_short : (r : Request) → refusal r ≡ 0 → length (ok_line (completed r)) ≤ longest_line
+ok_short : (r : Request) → refusal r ≡ None → length (ok_line (completed r)) ≤ longest_line
 unfolding completed
 ok_short r e =
     let s = stages r e in
@@ -64,12 +59,12 @@ ok_short r e =
     )
 
 completion_short : (r : Request) → length (completion_line (completion_of r)) ≤ longest_line
-unfolding completion_line completion_of answer
+unfolding completion_line completion_of
 completion_short r = go (refusal r) refl
   where
-    go : (n : ℕ) → refusal r ≡ n → length (completion_line (answer n r)) ≤ longest_line
-    go zero e = ok_short r e
-    go (suc n) e = no_short (suc n) (omega (arith, number_most r))
+    go : (o : Option Refusal) → refusal r ≡ o → length (completion_line (unless o (completed r))) ≤ longest_line
+    go None e = ok_short r e
+    go (Some n) e = no_short n
 
 -- behind a number of at most d + 1 digits
 shown_short : (d k : ℕ) (row : Shown) → k < 10 ^ suc d → ShownSmall row → length (row_line k row) ≤ d + 37
@@ -98,46 +93,39 @@ rows_short rows b (suc n) h =
     )
 
 spectrum_short : (r : Request) → length (spectrum_lines (shown_spectrum_of r)) ≤ longest_answer S.Prediction
-spectrum_short r = go (eqb (shown_spectrum_of r).refusal 0) refl
+unfolding spectrum_lines
+spectrum_short r = go (shown_spectrum_of r) (shown_rows_small r)
   where
-    go : (t : Bool) → eqb (shown_spectrum_of r).refusal 0 ≡ t → length (spectrum_lines (shown_spectrum_of r)) ≤ longest_answer S.Prediction
-    go true e =
-        omega (
-          arith,
-          ap length (good-lines (shown_spectrum_of r) (eqb-true (shown_spectrum_of r).refusal 0 e)),
-          rows_short (shown_spectrum_of r).rows (shown_rows_small r) measures (omega arith),
-        )
-    go false e =
-        omega (
-          arith,
-          ap length (refused-line (shown_spectrum_of r) (eqb-false (shown_spectrum_of r).refusal 0 e)),
-          no_short (shown_spectrum_of r).refusal (omega (arith, shown_number r, number_handed_on r, number_is r, number_most r)),
-        )
+    go :
+        (a : Result (List Shown) Refusal) → ((k : ℕ) → k < measures → ShownSmall (get_or (rows_in a) k no_shown))
+        → length (spectrum_lines a) ≤ longest_answer S.Prediction
+    go (Ok rows) small = rows_short rows small measures (omega arith)
+    go (Err n) small = omega (arith, no_short n)
 
 period_short : (r : Request) (t : ℕ) → length (period_line t (period_of r t)) ≤ longest_period
 unfolding period_line
 period_short r t =
-    by_completion r (λ c e. by_test c e (covered t) refl) (λ n e. rw (period_refused r n t e) (short_number n (refused_number r n e)))
+    by_completion r (λ c e. by_test c e (covered t) refl) (λ n e. rw (period_refused r n t e) (no_shorter n))
   where
-    short_number : (n : ℕ) → n ≤ 99 → length (no_line n) ≤ longest_period
-    short_number n h = omega (arith, no_short n h)
+    no_shorter : (n : Refusal) → length (no_line n) ≤ longest_period
+    no_shorter n = omega (arith, no_short n)
 
-    by_test : (c : Request) → completion_of r ≡ C.Done c → (b : Bool) → covered t ≡ b → length (period_line t (period_of r t)) ≤ longest_period
+    by_test : (c : Request) → completion_of r ≡ Ok c → (b : Bool) → covered t ≡ b → length (period_line t (period_of r t)) ≤ longest_period
     by_test c e true h =
         let v = period_row r c t e h in
         rw v
         (shown_short 4 t (shown_of (row_at t (scenario_of c))) (omega (arith, covered-high t h)) (shown_small (row_at t (scenario_of c)) (value-small r t (row_at t (scenario_of c)) v)))
-    by_test c e false h = rw (period_none r c t e h) (short_number No.no_period (omega arith))
+    by_test c e false h = rw (period_none r c t e h) (no_shorter No.NoPeriod)
 
 -- ---- the answers
-reply_short : (sheet : Sheet) (l : Line) → length (reply_of sheet l) ≤ longest_answer sheet
+reply_short : (sheet : Sheet) (l : Option Request) → length (reply_of sheet l) ≤ longest_answer sheet
 unfolding reply_of sheet_of
-reply_short S.Completion (L.Is r) = completion_short r
-reply_short S.Completion L.Malformed = no_short No.malformed (omega arith)
-reply_short S.Prediction (L.Is r) = spectrum_short r
-reply_short S.Prediction L.Malformed = omega (arith, no_short No.malformed (omega arith))
-reply_short (S.Period t) (L.Is r) = period_short r t
-reply_short (S.Period t) L.Malformed = omega (arith, no_short No.malformed (omega arith))
+reply_short S.Completion (Some r) = completion_short r
+reply_short S.Prediction (Some r) = spectrum_short r
+reply_short (S.Period t) (Some r) = period_short r t
+reply_short S.Completion None = no_short No.Malformed
+reply_short S.Prediction None = omega (arith, no_short No.Malformed)
+reply_short (S.Period t) None = omega (arith, no_short No.Malformed)
 
 pub answer-short : (sheet : Sheet) (s : List ℕ) → length (answer_to sheet s) ≤ longest_answer sheet
 unfolding answer_to

@@ -5,21 +5,17 @@ use mathlib.Core.Bool.{Bool, true, false}
 use mathlib.Core.List.{List, ◌++◌}
 use native.Mathlib.Omega.{arith}
 use native.Mathlib.Numerals.{add-one}
-use borrow.Author.Tests.{eq-eqb, ne_eqb, ltb-true, ltb-false}
+use borrow.Author.Tests.{ltb-true, ltb-false}
 use lib.Dec.{ltb}
 use lib.ListN.{length, get_or, length-append}
 use Rattle.tables.specs.Tables.{measures}
-use Rattle.model.specs.declared.Row.{Row}
 use Rattle.model.specs.declared.Shown.{Shown}
-use Rattle.model.specs.Rows.{shown_of, no_shown}
-use Rattle.prediction.specs.declared.shown.ShownSpectrum.{ShownSpectrum}
-use Rattle.one_period.specs.declared.OnePeriod.TheVariants as P
+use Rattle.model.specs.Rows.{no_shown}
 use Rattle.lent.specs.Lent.{Written}
 use Rattle.lent.proofs.PutLaws.{room_after, then}
 use Rattle.numerals.specs.Render.{lf, space, render, render_signed}
 use Rattle.numerals.proofs.RenderLaws.{length-ended}
-use Rattle.lines.specs.Lines.{no_line}
-use Rattle.answer.specs.RowLines.{row_line, row_lines, spectrum_lines, period_line}
+use Rattle.answer.specs.RowLines.{row_line, row_lines}
 
 pub length_row :
     (k : ℕ) (r : Shown)
@@ -59,22 +55,3 @@ module _ (rows : List Shown) where
 
     pub row_then : {r : ℕ} {out₁ : List ℕ} → Written out at (row_line k (get_or rows k no_shown)) r out₁ → Written b 0 (row_lines (k + 1) rows) r out₁
     row_then v = rw (rows_next k) (then w (row_line k (get_or rows k no_shown)) both v)
-
--- ---- the lines of a spectrum
-module _ (s : ShownSpectrum) where
-  pub refused-line : (s.refusal ≡ 0 → ⊥) → spectrum_lines s ≡ no_line s.refusal
-  unfolding spectrum_lines
-  refused-line h = rw (ne_eqb s.refusal 0 h)
-
-  pub good-lines : s.refusal ≡ 0 → spectrum_lines s ≡ row_lines measures s.rows
-  unfolding spectrum_lines
-  good-lines h = rw (eq-eqb s.refusal 0 h)
-
--- ---- the line of a period
-pub period_value : (t : ℕ) (w : Row) → period_line t (P.Value w) ≡ row_line t (shown_of w)
-unfolding period_line
-period_value t w = refl
-
-pub period_number : (t n : ℕ) → period_line t (P.Refused n) ≡ no_line n
-unfolding period_line
-period_number t n = refl

@@ -1,12 +1,11 @@
 -- The answer lines of the predicting program: 24 for an accepted request, "measure number, ln median, median and total sigma as the
 -- reported whole numbers, single spaces, no header"; for one period a line, the period in the measure's place. Definitions only.
-use Rattle.std.specs.Prelude.{ℕ, zero, suc, cond, List, [], ◌∷◌, ◌++◌, eqb, get_or}
+use Rattle.std.specs.Prelude.{ℕ, zero, suc, List, [], ◌∷◌, ◌++◌, get_or, Result, Ok, Err}
+use Rattle.refusals.specs.declared.Refusal.{Refusal}
 use Rattle.tables.specs.Tables.{measures}
+use Rattle.model.specs.declared.Row.{Row}
 use Rattle.model.specs.declared.Shown.{Shown}
 use Rattle.model.specs.Rows.{shown_of, no_shown}
-use Rattle.prediction.specs.declared.shown.ShownSpectrum.{ShownSpectrum}
-use Rattle.one_period.specs.declared.OnePeriod.{OnePeriod}
-use Rattle.one_period.specs.declared.OnePeriod.TheVariants as P
 use Rattle.numerals.specs.Render.{lf, space, render_signed, ended}
 use Rattle.lines.specs.Lines.{no_line}
 
@@ -22,12 +21,13 @@ row_lines zero rows = []
 row_lines (suc k) rows = row_lines k rows ++ row_line k (get_or rows k no_shown)
 
 -- the lines of a spectrum, or that of its refusal
-unfoldable pub spectrum_lines : ShownSpectrum → List ℕ
+unfoldable pub spectrum_lines : Result (List Shown) Refusal → List ℕ
 unfolding row_lines no_line
-spectrum_lines s = cond (eqb s.refusal 0) (row_lines measures s.rows) (no_line s.refusal)
+spectrum_lines (Ok rows) = row_lines measures rows
+spectrum_lines (Err n) = no_line n
 
 -- the line of period t, or that of its refusal
-unfoldable pub period_line : ℕ → OnePeriod → List ℕ
+unfoldable pub period_line : ℕ → Result Row Refusal → List ℕ
 unfolding row_line shown_of no_line
-period_line t (P.Value w) = row_line t (shown_of w)
-period_line t (P.Refused n) = no_line n
+period_line t (Ok w) = row_line t (shown_of w)
+period_line t (Err n) = no_line n

@@ -1,13 +1,12 @@
 -- From a line to its answer, by the sheet that is asked for. Definitions only.
-use Rattle.std.specs.Prelude.{ℕ, ◌*◌, List}
+use Rattle.std.specs.Prelude.{ℕ, ◌*◌, List, Option, Some, None}
+use Rattle.refusals.specs.declared.Refusal.TheVariants as No
 use Rattle.request.specs.declared.Request.{Request}
 use Rattle.outcome.specs.Answers.{completion_of}
 use Rattle.tables.specs.Tables.{measures}
 use Rattle.prediction.specs.Spectra.{shown_spectrum_of}
 use Rattle.one_period.specs.OnePeriods.{period_of}
-use Rattle.text.specs.declared.read.Line.{Line}
-use Rattle.text.specs.declared.read.Line.TheVariants as L
-use Rattle.text.specs.Grammar.{line_of, number_of}
+use Rattle.text.specs.Grammar.{line_of}
 use Rattle.lines.specs.Lines.{no_line, completion_line}
 use Rattle.answer.specs.declared.Sheet.{Sheet}
 use Rattle.answer.specs.declared.Sheet.TheVariants as S
@@ -21,10 +20,10 @@ sheet_of S.Prediction r = spectrum_lines (shown_spectrum_of r)
 sheet_of (S.Period t) r = period_line t (period_of r t)
 
 -- a malformed line is refused
-unfoldable pub reply_of : Sheet → Line → List ℕ
+unfoldable pub reply_of : Sheet → Option Request → List ℕ
 unfolding sheet_of no_line
-reply_of sheet (L.Is r) = sheet_of sheet r
-reply_of sheet L.Malformed = no_line (number_of L.Malformed)
+reply_of sheet (Some r) = sheet_of sheet r
+reply_of sheet None = no_line No.Malformed
 
 -- from the bytes of a line, its LF not among them, to the bytes of its answer
 unfoldable pub answer_to : Sheet → List ℕ → List ℕ

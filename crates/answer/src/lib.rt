@@ -9,15 +9,14 @@ ghost use Rattle.lent.specs.Lent.{LentWritten};
 ghost use Rattle.answer.specs.Sheets.{sheet_of, answer_to};
 
 use completion::complete;
-use lent::Wrote;
 use lines::{write_completion, write_no};
 use one_period::predict_period;
 pub use period::write_period;
 use prediction::predict_shown;
-use refusals::MALFORMED;
+use refusals::Refusal;
 use request::Request;
 pub use rows::write_spectrum;
-use text::{Line, read_line};
+use text::read_line;
 
 // Which answers are asked for: the completed figures, the rows of the measures, or the row at a period in
 // thousandths of a second.
@@ -28,8 +27,8 @@ pub enum Sheet {
     Period(u64),
 }
 
-// The answer to a request. Its only refusal is TOO_LONG, and then no byte of `out` has changed.
-pub fn answer_request(sheet: Sheet, r: Request, out: &mut [u8]) -> Wrote
+// The answer to a request. Its only refusal is TooLong, and then no byte of `out` has changed.
+pub fn answer_request(sheet: Sheet, r: Request, out: &mut [u8]) -> Result<usize, Refusal>
     ensures { LentWritten out.old (sheet_of sheet r) result out.new }
 {
     match sheet {
@@ -40,11 +39,11 @@ pub fn answer_request(sheet: Sheet, r: Request, out: &mut [u8]) -> Wrote
 }
 
 // The answer to a line without its LF: any bytes, of any length. It is refused as that to a request is.
-pub fn answer_line(sheet: Sheet, s: &[u8], out: &mut [u8]) -> Wrote
+pub fn answer_line(sheet: Sheet, s: &[u8], out: &mut [u8]) -> Result<usize, Refusal>
     ensures { LentWritten out.old (answer_to sheet s.now) result out.new }
 {
-    let Line::Is(r) = read_line(s) else {
-        return write_no(out, MALFORMED);
-    };
-    answer_request(sheet, r, out)
+    match read_line(s) {
+        Some(r) => answer_request(sheet, r, out),
+        None => write_no(out, Refusal::Malformed),
+    }
 }

@@ -6,5 +6,5 @@ use programs::xanhupive_program_complete;
 use std::process::ExitCode;
 
 fn main(rt: HostRuntime) -> ExitCode {
-    ExitCode::from(xanhupive_program_complete(&rt) as u8)
+    ExitCode::from(xanhupive_program_complete(&rt))
 }

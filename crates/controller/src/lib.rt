@@ -1,4 +1,5 @@
-// What a valve's controller calls: one measure, and nothing else. By its name in C it stands in `controller_c`.
+// What a valve's controller calls: one measure, and nothing else, told by a number, since C has no `Result`. By its
+// name in C it stands in `controller_c`.
 #![tactic(auto)]
 
 ghost use Rattle.text.specs.Grammar.{line_of};

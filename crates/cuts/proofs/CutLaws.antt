@@ -1,47 +1,31 @@
--- The bytes up to the last of a kind: by the last byte, and how many they are. Assumes nothing.
-use Prim.Native.Nat.{ℕ, suc, ◌-◌, ◌≤◌, ◌<◌}
-use mathlib.Core.Path.{◌≡◌, refl, ap, ◌∙◌}
+-- The bytes up to the last of a kind: by the place of the last, and how many they are. Assumes nothing.
+use Prim.Native.Nat.{ℕ, zero, suc, ◌+◌, ◌≤◌, ◌<◌}
+use mathlib.Core.Logic.{◌≢◌}
+use mathlib.Core.Path.{◌≡◌, refl}
 use mathlib.Core.Bool.{Bool, true, false, cond}
-use mathlib.Core.List.{List, [], ◌∷◌, ◌++◌}
+use mathlib.Core.List.{List, [], ◌∷◌}
 use native.Mathlib.Omega.{arith}
+use native.Mathlib.Numerals.{add-one}
 use borrow.Author.Tests.{eq-eqb, ne_eqb}
 use lib.Dec.{eqb}
 use lib.ListN.{length, get_or, take}
-use lib.Seq.{take-suc, length-take-le}
 use Rattle.cuts.specs.Cuts.{up_to}
 
 module _ (b : ℕ) where
-  -- one byte more
-  up_more : (s : List ℕ) (c : ℕ) → up_to b (s ++ (c ∷ [])) ≡ cond (eqb c b) (suc (length s)) (up_to b s)
+  -- where none is b
+  pub up_none : (s : List ℕ) → ((k : ℕ) → k < length s → get_or s k 0 ≢ b) → up_to b s ≡ 0
   unfolding up_to
-  up_more [] c = go (eqb c b)
-    where
-      go : (t : Bool) → ◌≡◌ {A = ℕ} (cond t 1 0) (cond t 1 0)
-      go true = refl
-      go false = refl
-  up_more (x ∷ xs) c = rw (up_more xs c) (go (eqb c b))
-    where
-      go : (t : Bool) → cond (eqb (cond t (suc (length xs)) (up_to b xs)) 0) (cond (eqb x b) 1 0) (suc (cond t (suc (length xs)) (up_to b xs)))
-          ≡ cond t (suc (suc (length xs))) (cond (eqb (up_to b xs) 0) (cond (eqb x b) 1 0) (suc (up_to b xs)))
-      go true = rw (ne_eqb (suc (length xs)) 0 (λ e. omega arith))
-      go false = refl
+  up_none [] h = refl
+  up_none (c ∷ cs) h = rw (up_none cs (λ k l. h (suc k) (omega arith)), ne_eqb c b (h 0 (omega arith)))
 
-  -- the last among the first n bytes, by the byte before n
-  module _ (s : List ℕ) (n : ℕ) (some : 0 < n) (inside : n ≤ length s) where
-    by_last : up_to b (take n s) ≡ cond (eqb (get_or s (n - 1) 0) b) n (up_to b (take (n - 1) s))
-    by_last =
-        ap (up_to b) (ap (λ (k : ℕ). take k s) one_more ∙ take-suc s (n - 1) 0 (omega arith))
-        ∙ up_more (take (n - 1) s) (get_or s (n - 1) 0)
-        ∙ ap (λ (k : ℕ). cond (eqb (get_or s (n - 1) 0) b) k (up_to b (take (n - 1) s))) (omega (arith, length-take-le (n - 1) s (omega arith)))
-      where
-        one_more : n ≡ suc (n - 1)
-        one_more = omega arith
-
-    pub up-here : get_or s (n - 1) 0 ≡ b → up_to b (take n s) ≡ n
-    up-here e = by_last ∙ rw (eq-eqb (get_or s (n - 1) 0) b e)
-
-    pub up_before : (get_or s (n - 1) 0 ≡ b → ⊥) → up_to b (take n s) ≡ up_to b (take (n - 1) s)
-    up_before e = by_last ∙ rw (ne_eqb (get_or s (n - 1) 0) b e)
+  -- where the last that is b stands at i
+  pub up_last : (s : List ℕ) (i : ℕ) → i < length s → get_or s i 0 ≡ b → ((k : ℕ) → i + 1 ≤ k → k < length s → get_or s k 0 ≢ b) → up_to b s ≡ i + 1
+  unfolding up_to
+  up_last [] i h e none = absurd (omega arith)
+  up_last (c ∷ cs) zero h e none = rw (up_none cs (λ k l. none (suc k) (omega arith) (omega arith)), eq-eqb c b e)
+  up_last (c ∷ cs) (suc i) h e none =
+      let l : up_to b cs ≡ suc i = rw (← add-one i) (up_last cs i (omega arith) e (λ k m n. none (suc k) (omega arith) (omega arith))) in
+      rw (l, ne_eqb (suc i) 0 (λ q. omega arith)) (omega arith)
 
   -- no more than there are
   pub up_le : (s : List ℕ) → up_to b s ≤ length s

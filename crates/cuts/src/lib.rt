@@ -8,12 +8,8 @@ ghost use Rattle.cuts.specs.Cuts.{up_to};
 pub fn up_to_last(s: &[u8], b: u8) -> usize
     ensures { (result ≡ up_to b s.now) × (result ≤ length s.now) }
 {
-    let mut n = s.len();
-    while 0 < n {
-        if s[n - 1] == b {
-            return n;
-        }
-        n -= 1;
+    match s.iter().rposition(|c| *c == b) {
+        Some(i) => i + 1,
+        None => 0,
     }
-    0
 }

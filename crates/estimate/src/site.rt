@@ -5,6 +5,9 @@ ghost use Rattle.rules.specs.Fixed.{ln_z10_fixed, basin_fixed};
 
 use reckon::{E10, exp_fixed, ln_quotient, mul_div};
 
+// The last Vs30, in m/s, of equation 23's second rule, which the third does not join.
+const JUMP: u64 = 500;
+
 // Z2.5 in m from Z1.5 (equation 25).
 pub fn basin_from_z15(z: u64) -> u64
     requires { z ≤ 10000 }
@@ -35,12 +38,12 @@ fn ln_z10(v: u64) -> i64
     ensures { result ≡ ln_z10_fixed v }
 {
     if v < 180 {
-        return 6_745_000_000;
+        6_745_000_000
+    } else if v <= JUMP {
+        6_745_000_000 - mul_div(135, ln_quotient(v, 180), 100)
+    } else {
+        5_394_000_000 - mul_div(448, ln_quotient(v, 500), 100)
     }
-    if v <= 500 {
-        return 6_745_000_000 - mul_div(135, ln_quotient(v, 180), 100);
-    }
-    5_394_000_000 - mul_div(448, ln_quotient(v, 500), 100)
 }
 
 // Z2.5 in m from Vs30.

@@ -10,6 +10,7 @@ use request::Style;
 const LN10: u64 = 2_302_585_092;
 
 // The dip in degrees.
+#[tactic(auto, unfolding(rules::specs::Rules::dip_of))]
 pub fn dip_estimate(s: Style) -> u64
     ensures { result ≡ dip_of s }
 {
@@ -21,6 +22,7 @@ pub fn dip_estimate(s: Style) -> u64
 }
 
 // log10 of W in m, in units of 10^-4.
+#[tactic(auto, unfolding(rules::specs::Fixed::log_width_fixed))]
 fn log_width(s: Style, m: u64) -> u64
     requires { m ≤ 850 }
     ensures { (result ≡ log_width_fixed s m) × (result ≤ 50000) }
@@ -33,6 +35,7 @@ fn log_width(s: Style, m: u64) -> u64
 }
 
 // W in m (equation 2).
+#[tactic(auto, unfolding(rules::specs::Fixed::width_fixed))]
 pub fn width_estimate(s: Style, m: u64) -> u64
     requires { (400 ≤ m) × (m ≤ 850) }
     ensures { result ≡ width_fixed s m }
@@ -42,25 +45,22 @@ pub fn width_estimate(s: Style, m: u64) -> u64
 }
 
 // ZHYP in tenths of a metre (equation 4).
+#[tactic(auto, unfolding(rules::specs::Rules::hypocentre))]
 pub fn hypocentre_estimate(s: Style, m: u64) -> u64
     requires { (400 ≤ m) × (m ≤ 850) }
     ensures { result ≡ hypocentre s m }
 {
     match s {
         Style::StrikeSlip => 56_300 + 68 * m,
-        _ => 112_400 - 20 * m,
+        Style::Reverse | Style::Normal => 112_400 - 20 * m,
     }
 }
 
 // ZTOR in m: the larger of 0 and ZHYP - 0.6 W sin(dip), ZHYP in tenths of a metre (equation 3).
+#[tactic(auto, unfolding(rules::specs::Fixed::top_fixed))]
 pub fn top_estimate(zhyp: u64, w: u64, dip: u64) -> u64
     requires { (zhyp ≤ 300000) × (w ≤ 100000) × (dip ≤ 90) }
     ensures { result ≡ top_fixed zhyp w dip }
 {
-    let bottom = zhyp * E9;
-    let rise = 6 * w * sin_deg(dip);
-    if bottom < rise {
-        return 0;
-    }
-    (bottom - rise) / E10
+    (zhyp * E9).saturating_sub(6 * w * sin_deg(dip)) / E10
 }

@@ -6,8 +6,9 @@ use Rattle.request.specs.declared.Style.TheVariants.{StrikeSlip, Reverse}
 use Rattle.request.specs.declared.Request.{Request}
 use Rattle.request.specs.Fields.{size_of}
 use Rattle.request.specs.Styles.{style_of}
-use Rattle.refusals.specs.Order as No
-use Rattle.outcome.specs.Answers.{completion_of, number_of, figures_of}
+use Rattle.refusals.specs.declared.Refusal.TheVariants as No
+use Rattle.refusals.specs.Order.{number_of, number_in}
+use Rattle.outcome.specs.Answers.{completion_of, figures_of}
 use Rattle.tables.specs.Tables.{PGA, coefficients_at}
 use Rattle.model.specs.Equations.{E27, f_mag, f_hng_m}
 
@@ -35,7 +36,7 @@ metres n = Measured (pos n)
 
 -- its refusal's number, 0 for accepted
 abbrev pub refusal_of : Request → ℕ
-refusal_of r = number_of (completion_of r)
+refusal_of r = number_in (completion_of r)
 
 -- its completed Z2.5
 abbrev pub completed_basin : Request → ℕ
@@ -58,15 +59,15 @@ twelve =
     -- 7. Z1.5 of 6045 completes to 9999
     ∷ (completed_basin (request 650 0 (metres 3000) Blank Blank (metres 6045) Blank) ≡ 9999)
     -- 8. 6046 gives refusal 13
-    ∷ (refusal_of (request 650 0 (metres 3000) Blank Blank (metres 6046) Blank) ≡ No.basin)
+    ∷ (refusal_of (request 650 0 (metres 3000) Blank Blank (metres 6046) Blank) ≡ number_of No.Basin)
     -- 9. Z1.0 of 1000 completes to 4114
     ∷ (completed_basin (request 650 0 (metres 3000) Blank (metres 1000) Blank Blank) ≡ 4114)
     -- 10. Reverse, M 800 accepted, 801 refused (2)
     ∷ ((refusal_of (request 800 90 (metres 3000) Blank Blank Blank (metres 2000)) ≡ 0)
-    × (refusal_of (request 801 90 (metres 3000) Blank Blank Blank (metres 2000)) ≡ No.magnitude))
+    × (refusal_of (request 801 90 (metres 3000) Blank Blank Blank (metres 2000)) ≡ number_of No.Magnitude))
     -- 11. RJB 4000, ZTOR 1000: given RRUP 4123 accepted, 4122 refused (12)
     ∷ ((refusal_of (request 650 0 (metres 1000) (metres 4123) Blank Blank (metres 2000)) ≡ 0)
-    × (refusal_of (request 650 0 (metres 1000) (metres 4122) Blank Blank (metres 2000)) ≡ No.too_short))
+    × (refusal_of (request 650 0 (metres 1000) (metres 4122) Blank Blank (metres 2000)) ≡ number_of No.TooShort))
     -- 12. Magnitude factor 0.5 at M 6.25
     ∷ (f_hng_m 625 ≡ 50)
     ∷ []

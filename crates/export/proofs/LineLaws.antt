@@ -9,7 +9,9 @@ use native.Mathlib.Omega.{arith}
 use lib.Dec.{ltb}
 use lib.ListN.{length}
 use borrow.Author.Tests.{lt-ltb, le-ltb, ltb-true, ltb-false}
-use Rattle.lent.specs.declared.Wrote.{Wrote}
+use Rattle.std.specs.Prelude.{Result, Ok, Err}
+use Rattle.std.specs.Result.{result_unwrap_or}
+use Rattle.refusals.specs.declared.Refusal.{Refusal}
 use Rattle.lent.specs.Lent.{count_of, wrote, LentWritten}
 use Rattle.answer.specs.declared.Sheet.{Sheet}
 use Rattle.answer.specs.Sheets.{answer_to, longest_answer}
@@ -19,8 +21,12 @@ use Rattle.export.specs.Given.{LineGiven}
 
 -- ---- the count
 -- what a line writer promises, its answer counted
-pub line-given : {b s : List ℕ} {w : Wrote} {b₁ : List ℕ} (n : ℕ) → LentWritten b s w b₁ → n ≡ count_of w → LineGiven b s n b₁
-line-given n w e = record { count = e ∙ ap count_of w.answer; bytes = w.became }
+counted : (w : Result ℕ Refusal) → result_unwrap_or w 0 ≡ count_of w
+counted (Ok n) = refl
+counted (Err e) = refl
+
+pub line-given : {b s : List ℕ} {w : Result ℕ Refusal} {b₁ : List ℕ} (n : ℕ) → LentWritten b s w b₁ → n ≡ result_unwrap_or w 0 → LineGiven b s n b₁
+line-given {w = w} n v e = record { count = e ∙ counted w ∙ ap count_of v.answer; bytes = v.became }
 
 -- ---- what the count says
 module _ {b s : List ℕ} {n : ℕ} {b₁ : List ℕ} (g : LineGiven b s n b₁) where

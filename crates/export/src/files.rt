@@ -3,15 +3,16 @@
 ghost use Rattle.std.specs.Prelude.{◌≡◌};
 ghost use Rattle.site_files.specs.Format.{count_in, pack_of, unpack_of};
 ghost use Rattle.site_files.specs.Given.{Told, counted};
+ghost use Rattle.kept.specs.Faults.{number_in};
 ghost use Rattle.kept.specs.Calls.{numbered};
-ghost use Rattle.record_answers.specs.RecordAnswers.{record_reply};
+ghost use Rattle.record_answers.specs.RecordAnswers.{record_reply, RecordTold};
 ghost use Rattle.export.specs.Given.{SpectrumGiven, record_spectrum};
 
 use crate::spectrum::spectrum_or;
-use kept::MISUSE;
+use kept::{Fault, number_in};
 use record_answers::answer_record;
 use records::{RECORD, record_in};
-use refusals::FILE_FIELD;
+use refusals::Refusal;
 use site_files::{pack_in, records_in, unpack_in};
 
 // The file of a list: 0, with how many bytes were written; or 14, 20 or 16.
@@ -35,22 +36,29 @@ pub fn xanhupive_file_records(file: &[u8], count: &mut u64) -> u32
     records_in(file, count)
 }
 
+// The rows of a record, of which there may be too few bytes.
+fn record_spectrum(bytes: &[u8], rows: &mut [f64]) -> Result<(), Fault>
+    ensures { SpectrumGiven (record_spectrum bytes.now) rows.old (number_in result) rows.new }
+{
+    if bytes.len() < RECORD {
+        return Err(Fault::Misuse);
+    }
+    spectrum_or(record_in(&bytes[..RECORD]), Refusal::FileField, rows)
+}
+
 // The rows of a record, six numbers a row, at the start of `rows`: 0; or the refusal's number, 21 for a
 // field that is malformed; or 255 for too few bytes of a record. Then no number has changed.
 pub fn xanhupive_record_spectrum(bytes: &[u8], rows: &mut [f64]) -> u32
     ensures { SpectrumGiven (record_spectrum bytes.now) rows.old result rows.new }
 {
-    if bytes.len() < RECORD {
-        return MISUSE;
-    }
-    spectrum_or(record_in(&bytes[..RECORD]), FILE_FIELD, rows)
+    number_in(record_spectrum(bytes, rows))
 }
 
 // The answer to a record as lines of text, on the sheet of a number, at the start of `out`: 0, with how
 // many bytes were written; or 21 for a field that is malformed; or 16; or 255 for too few bytes of a
 // record or a number that is no sheet's.
 pub fn xanhupive_record_answer(bytes: &[u8], sheet: u64, out: &mut [u8], wrote: &mut u64) -> u32
-    ensures { Told (record_reply (numbered sheet) bytes.now) out.old wrote.old result out.new wrote.new }
+    ensures { RecordTold (record_reply (numbered sheet) bytes.now) out.old wrote.old result out.new wrote.new }
 {
     answer_record(bytes, sheet, out, wrote)
 }

@@ -1,5 +1,6 @@
 // The functions that a service in C or Rust calls. None asks anything of the bytes and numbers that it
-// is lent, and a refusal changes none of them. By their names in C they stand in `export_c`.
+// is lent, and a refusal changes none of them. C has no `Result`, so that they answer with numbers. By their names
+// in C they stand in `export_c`.
 #![tactic(auto)]
 
 mod files;
@@ -9,7 +10,7 @@ mod period;
 mod rows;
 mod spectrum;
 
-ghost use Rattle.refusals.specs.Order as No;
+ghost use Rattle.refusals.specs.declared.Refusal.TheVariants as No;
 ghost use Rattle.text.specs.Grammar.{line_of};
 ghost use Rattle.answer.specs.declared.Sheet.TheVariants as S;
 ghost use Rattle.answer.specs.Sheets.{answer_to};
@@ -20,11 +21,11 @@ pub use files::{
     xanhupive_file_records, xanhupive_pack, xanhupive_record_answer, xanhupive_record_spectrum,
     xanhupive_unpack,
 };
-use lent::count_of;
+use kept::number_in;
 pub use measure::xanhupive_measure;
 pub use parts::{xanhupive_close, xanhupive_reader_begin, xanhupive_take_part};
 pub use period::xanhupive_period;
-use refusals::MALFORMED;
+use refusals::Refusal;
 use spectrum::spectrum_or;
 use text::read_line;
 
@@ -33,7 +34,7 @@ use text::read_line;
 pub fn xanhupive_complete_line(line: &[u8], out: &mut [u8]) -> usize
     ensures { LineGiven out.old (answer_to S.Completion line.now) result out.new }
 {
-    count_of(answer_line(Sheet::Completion, line, out))
+    answer_line(Sheet::Completion, line, out).unwrap_or(0)
 }
 
 // The predicting program's answer to a line without its LF: how many bytes it has at the start of
@@ -41,13 +42,13 @@ pub fn xanhupive_complete_line(line: &[u8], out: &mut [u8]) -> usize
 pub fn xanhupive_predict_line(line: &[u8], out: &mut [u8]) -> usize
     ensures { LineGiven out.old (answer_to S.Prediction line.now) result out.new }
 {
-    count_of(answer_line(Sheet::Prediction, line, out))
+    answer_line(Sheet::Prediction, line, out).unwrap_or(0)
 }
 
 // The rows of a line without its LF, six numbers a row, at the start of `rows`: 0, or the refusal's
 // number, and then no number has changed.
 pub fn xanhupive_spectrum(line: &[u8], rows: &mut [f64]) -> u32
-    ensures { SpectrumGiven (spectrum_or No.malformed (line_of line.now)) rows.old result rows.new }
+    ensures { SpectrumGiven (spectrum_or No.Malformed (line_of line.now)) rows.old result rows.new }
 {
-    spectrum_or(read_line(line), MALFORMED, rows)
+    number_in(spectrum_or(read_line(line), Refusal::Malformed, rows))
 }

@@ -1,6 +1,5 @@
 // The rows of a spectrum one after the other in lent numbers.
-ghost use Rattle.std.specs.Prelude.{◌≡◌, ◌≤◌, length};
-ghost use Rattle.tables.specs.Tables.{measures};
+ghost use Rattle.std.specs.Prelude.{◌≤◌, length};
 ghost use Rattle.lent.specs.Lent.{Written};
 ghost use Rattle.export.specs.Given.{numbers_of};
 
@@ -13,14 +12,12 @@ pub const NUMBERS: usize = COLUMNS * MEASURES;
 
 // All rows, for which there is room.
 pub fn put_rows(out: &mut [f64], rows: [FloatRow; MEASURES]) -> usize
-    requires { (length rows ≡ measures) × (length (numbers_of rows) ≤ length out.old) }
+    requires { length (numbers_of rows) ≤ length out.old }
     ensures { Written out.old 0 (numbers_of rows) result out.new }
 {
-    let mut at = 0usize;
-    let mut k = 0usize;
-    while k < MEASURES {
-        at = put_row(out, at, rows[k]);
-        k += 1;
+    let mut at = 0;
+    for row in rows {
+        at = put_row(out, at, row);
     }
     at
 }

@@ -3,7 +3,7 @@
 #![tactic(auto)]
 
 ghost use Rattle.std.specs.Prelude.{◌≡◌};
-ghost use Rattle.refusals.specs.Order as No;
+ghost use Rattle.refusals.specs.declared.Refusal.TheVariants as No;
 ghost use Rattle.text.specs.Grammar.{line_of};
 ghost use Rattle.answer.specs.declared.Sheet.TheVariants as S;
 ghost use Rattle.answer.specs.Sheets.{answer_to};
@@ -12,7 +12,7 @@ ghost use Rattle.row_numbers.specs.RowNumbers.{period_answer, PeriodGiven};
 ghost use Rattle.site_files.specs.Format.{count_in, pack_of, unpack_of};
 ghost use Rattle.site_files.specs.Given.{Told, counted};
 ghost use Rattle.kept.specs.Calls.{loan, numbered, begin_told, part_told, close_told};
-ghost use Rattle.record_answers.specs.RecordAnswers.{record_reply};
+ghost use Rattle.record_answers.specs.RecordAnswers.{record_reply, RecordTold};
 ghost use Rattle.export.specs.Given.{LineGiven, SpectrumGiven, spectrum_or, record_spectrum};
 
 // The completing program's answer to a line without its LF: how many bytes it has at the start of
@@ -37,7 +37,7 @@ pub extern "C" fn xanhupive_predict_line(line: &[u8], out: &mut [u8]) -> usize
 // number, and then no number has changed.
 #[unsafe(no_mangle)]
 pub extern "C" fn xanhupive_spectrum(line: &[u8], rows: &mut [f64]) -> u32
-    ensures { SpectrumGiven (spectrum_or No.malformed (line_of line.now)) rows.old result rows.new }
+    ensures { SpectrumGiven (spectrum_or No.Malformed (line_of line.now)) rows.old result rows.new }
 {
     export::xanhupive_spectrum(line, rows)
 }
@@ -140,7 +140,7 @@ pub extern "C" fn xanhupive_record_answer(
     out: &mut [u8],
     wrote: &mut u64,
 ) -> u32
-    ensures { Told (record_reply (numbered sheet) bytes.now) out.old wrote.old result out.new wrote.new }
+    ensures { RecordTold (record_reply (numbered sheet) bytes.now) out.old wrote.old result out.new wrote.new }
 {
     export::xanhupive_record_answer(bytes, sheet, out, wrote)
 }

@@ -9,24 +9,14 @@ use request::{Field, Request};
 // How many fields a request has.
 pub const FIELDS: usize = 13;
 
-// The fields in their order.
+// The fields in their order. A function, since a conversion would have to stand with the type, which knows no order
+// of text.
+#[tactic(auto, unfolding(crate::specs::Held::fields_in))]
 pub fn fields_of(r: Request) -> [Field; FIELDS]
     ensures { result ≡ fields_in r }
 {
-    let m = r.m;
-    let rake = r.rake;
-    let vs30 = r.vs30;
-    let dip = r.dip;
-    let w = r.w;
-    let zhyp = r.zhyp;
-    let ztor = r.ztor;
-    let rjb = r.rjb;
-    let azimuth = r.azimuth;
-    let rrup = r.rrup;
-    let z10 = r.z10;
-    let z15 = r.z15;
-    let z25 = r.z25;
     [
-        m, rake, vs30, dip, w, zhyp, ztor, rjb, azimuth, rrup, z10, z15, z25,
+        r.m, r.rake, r.vs30, r.dip, r.w, r.zhyp, r.ztor, r.rjb, r.azimuth, r.rrup, r.z10, r.z15,
+        r.z25,
     ]
 }

@@ -1,30 +1,15 @@
--- What the arguments of a program with two paths ask for, how a run of it ends, and the exit status that each gets. Definitions only.
-use Rattle.std.specs.Prelude.{ℕ, ◌≤◌, ◌≡◌, Bool, cond, eqb}
-use Rattle.file_streams.specs.declared.End.{End}
-use Rattle.file_streams.specs.declared.End.TheVariants as E
-use Rattle.file_streams.specs.Ends.{PackEnd, UnpackEnd}
-use Rattle.file_programs.specs.declared.Program.{Program}
-use Rattle.file_programs.specs.declared.Program.TheVariants as P
-use Rattle.file_programs.specs.declared.Asked.{Asked}
-use Rattle.file_programs.specs.declared.Asked.TheVariants as A
+-- What the arguments of a program with two paths ask for, and how a run of it ends. Definitions only.
+use Rattle.std.specs.Prelude.{ℕ, Bool, cond, eqb, Result, Ok, Err, IsErr}
+use Rattle.failures.specs.declared.Failed.{Failed}
+use Rattle.file_streams.specs.declared.Failure.{Failure}
+use Rattle.usage.specs.declared.Asked.{Asked}
+use Rattle.usage.specs.declared.Asked.TheVariants as A
 
 -- so many arguments, the program's own name counted: the word for help alone, or two paths
-unfoldable pub asked_of : ℕ → Bool → Asked
-asked_of count isHelp = cond (eqb count 3) A.Paths (cond (eqb count 2) (cond isHelp A.Help A.Misused) A.Misused)
+abbrev pub asked_of : ℕ → Bool → Asked (Unit {0})
+asked_of count isHelp = cond (eqb count 3) (A.Run tt) (cond (eqb count 2) (cond isHelp A.Help A.Misused) A.Misused)
 
--- a run of a program ends as its stream does
-abbrev pub RunEnd : Program → End → Type 0
-RunEnd P.Pack e = PackEnd e
-RunEnd P.Unpack e = UnpackEnd e
-
--- the exit status of a run: never 0 where it is refused or the system failed
-abbrev pub Finished : End → ℕ → Type 0
-Finished E.Whole n = n ≤ 1
-Finished (E.Refused k) n = n ≡ 1
-Finished E.Failed n = n ≡ 1
-
--- the exit status: 2 where the arguments are misused and nowhere else
-abbrev pub EndsAs : Asked → ℕ → Type 0
-EndsAs A.Paths n = n ≤ 1
-EndsAs A.Help n = n ≤ 1
-EndsAs A.Misused n = n ≡ 2
+-- the end of a run: never well where it is refused or the system failed
+abbrev pub Finished : Result (Unit {0}) Failure → Result (Unit {0}) Failed → Type 0
+Finished (Ok u) end = Unit {0}
+Finished (Err f) end = IsErr end

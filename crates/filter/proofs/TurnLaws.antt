@@ -1,6 +1,6 @@
 -- The reader from part to part and from block to block: what it leaves of a part it would take next, and after all of some bytes it is
 -- the same however they were cut. Assumes nothing.
-use Prim.Native.Nat.{ℕ, zero, suc, min, ◌≤◌, ◌<◌}
+use Prim.Native.Nat.{ℕ, zero, suc, min, ◌-◌, ◌≤◌, ◌<◌}
 use mathlib.Core.Path.{◌≡◌, refl, sym, ap, ◌∙◌}
 use mathlib.Core.Bool.{Bool, true, false, cond}
 use mathlib.Core.List.{List, [], ◌∷◌, ◌++◌}
@@ -8,22 +8,22 @@ use native.Mathlib.Nat.{zero-add}
 use native.Mathlib.Omega.{arith}
 use lib.Dec.{eqb, ltb}
 use lib.ListN.{length, take, drop}
-use Rattle.std.specs.Prelude.{Result, Ok, Err}
+use Rattle.std.specs.Prelude.{Result, Ok, Err, IsOk, is_ok}
+use Rattle.refusals.specs.declared.Refusal.{Refusal}
 use Rattle.lent.specs.Lent.{put}
 use Rattle.lent.proofs.PutLaws.{take_put}
+use Rattle.lent.proofs.WroteLaws.{after-fits}
 use Rattle.numerals.specs.Render.{lf}
 use Rattle.answer.specs.declared.Sheet.{Sheet}
-use Rattle.answer.specs.Sheets.{answer_to}
+use Rattle.answer.specs.Sheets.{answer_to, longest_answer}
 use Rattle.lists.specs.declared.Reader.{Reader}
 use Rattle.lists.specs.declared.Taken.{Taken}
-use Rattle.lists.specs.Parts.{line_in, new_reader, fresh, grown, closing, Stand, read_from, stand_in, part_answer, not_taken, PartTaken, Closed}
-use Rattle.lists.proofs.StandLaws.{answer-full, answer-fits, not_taken_full, not_taken_fits}
-use Rattle.lists.proofs.CloseLaws.{closed_wrote, closed_bytes}
-use Rattle.lists.proofs.Progress.{fits_or_full, wrote_text, wrote-fits}
-use Rattle.filter.specs.declared.State.{State}
-use Rattle.filter.specs.declared.State.TheVariants as S
-use Rattle.filter.specs.declared.Turn.{Turn}
-use Rattle.filter.specs.Turns.{EndTurn, reader_after, turn, BlockTurn, ReadTurn, Took}
+use Rattle.lists.specs.Parts.{line_in, fresh, grown, closing, Stand, first_answer, read_from, stand_in, taken_of, PartTaken, Closed}
+use Rattle.lists.proofs.StandLaws.{text_fits, first_taken, answer-fits, not_taken_fits}
+use Rattle.lists.proofs.CloseLaws.{close_fits}
+use Rattle.lists.proofs.Progress.{taken_exactly, never-refused}
+use Rattle.filter.specs.declared.Stop.{Stop}
+use Rattle.filter.specs.Turns.{reader_after, BlockTurn, ReadTurn, Took}
 
 -- ---- bytes cut in two
 pub after-append : (r : Reader) (a b : List ℕ) → reader_after r (a ++ b) ≡ reader_after (reader_after r a) b
@@ -43,9 +43,21 @@ after-append r (c ∷ cs) b = go (eqb c lf) (after-append (fresh r) cs b) (after
 first : (b s : List ℕ) → length s ≤ length b → take (length s) (put b 0 s) ≡ s
 first b s h = ap (λ (n : ℕ). take n (put b 0 s)) (sym (zero-add (length s))) ∙ take_put b 0 s (omega arith)
 
-pub closing_stands : {r : Reader} {b : List ℕ} {t : Taken} {b₁ : List ℕ} → Closed r b t b₁ → length (closing r) ≤ length b → take t.wrote b₁ ≡ closing r
-closing_stands {r} {b} {t} {b₁} p h =
-    ap (λ (k : ℕ). take k b₁) (closed_wrote p h) ∙ ap (take (length (closing r))) (closed_bytes p h) ∙ first b (closing r) h
+-- the answer at the close
+module _ {r r₁ : Reader} {b : List ℕ} {t : Result ℕ Refusal} {b₁ : List ℕ} (p : Closed r b t r₁ b₁) (h : length (closing r) ≤ length b) where
+  pub closing_told : t ≡ Ok (length (closing r))
+  closing_told = p.answer ∙ ap (λ c. c.told) (close_fits (length b) r h)
+
+  pub closing_ok : IsOk t
+  closing_ok = ap is_ok closing_told
+
+  pub closing_stands : {n : ℕ} → t ≡ Ok n → take n b₁ ≡ closing r
+  closing_stands {n} e =
+      let same : n ≡ length (closing r) = let k = closing_told in cc in
+      ap (λ (k : ℕ). take k b₁) same ∙ ap (take (length (closing r))) (p.bytes ∙ after-fits b (closing r) h) ∙ first b (closing r) h
+
+  pub closing-within : {n : ℕ} → t ≡ Ok n → n ≤ length b
+  closing-within {n} e = let same : n ≡ length (closing r) = let k = closing_told in cc in omega (arith, same, h)
 
 -- ---- a part, of which the reader leaves what does not fit
 -- what the bytes left make of the reader
@@ -71,75 +83,73 @@ module _ (sheet : Sheet) (room : ℕ) where
       go true false e f g = f
       go false b e f g = g
 
-module _ {sheet : Sheet} {r : Reader} {part b : List ℕ} {t : Taken} {b₁ : List ℕ} (p : PartTaken sheet r part b t b₁) where
-  -- so do those not taken
-  pub goes_on : reader_after t.reader (drop t.took part) ≡ reader_after r part
-  goes_on =
-      ap (λ (u : Taken). reader_after u.reader (drop u.took part)) p.answer
-      ∙ fits_or_full sheet (length b) r part
-      (reader_after (part_answer sheet (length b) r part).reader (not_taken sheet (length b) r part) ≡ reader_after r part)
-      (λ h.
-      ap (λ (u : Taken). reader_after u.reader (not_taken sheet (length b) r part)) (answer-fits sheet (length b) r part h)
-      ∙ ap (reader_after (stand_in sheet (length b) r part).reader) (not_taken_fits sheet (length b) r part h)
-      ∙ same_after sheet (length b) r [] part)
-      (λ h.
-      ap (λ (u : Taken). reader_after u.reader (not_taken sheet (length b) r part)) (answer-full sheet (length b) r part h)
-      ∙ ap (reader_after r) (not_taken_full sheet (length b) r part h))
+module _ {sheet : Sheet} {r r₁ : Reader} {part b : List ℕ} {t : Result Taken Refusal} {b₁ : List ℕ} (p : PartTaken sheet r part b t r₁ b₁) (enough : longest_answer sheet ≤ length b) where
+  abbrev stand : Stand
+  stand = stand_in sheet (length b) r part
 
-  -- what stands first in the lent bytes is the text
-  pub answers_stand : length b₁ ≡ length b → take t.wrote b₁ ≡ (read_from sheet (length b₁) r [] part).text
-  answers_stand e =
-      ap (λ (n : ℕ). take n b₁) (wrote_text p)
-      ∙ ap (take (length (stand_in sheet (length b) r part).text)) p.bytes
-      ∙ first b (stand_in sheet (length b) r part).text (omega (arith, wrote_text p, wrote-fits p))
-      ∙ ap (λ (n : ℕ). (read_from sheet n r [] part).text) (sym e)
+  fits : length (first_answer sheet r part) ≤ length b
+  fits = taken_exactly sheet (length b) r part (never-refused sheet (length b) r part enough)
 
--- ---- what `read` answered
-pub unread : {E : Type 0} (r : Reader) (input : List ℕ) (e : E) → ReadTurn (Err e) r input (turn r S.Unread)
-unread r input e = refl
+  -- with room for the longest answer no part is refused
+  pub part_told : t ≡ Ok (record { took = length part - length stand.left; wrote = length stand.text })
+  part_told = p.answer ∙ ap (λ c. c.told) (answer-fits sheet (length b) r part fits)
 
-module _ (E : Type 0) (r : Reader) (input : List ℕ) where
-  pub ended : (n : ℕ) → n ≡ 0 → ReadTurn {E = E} (Ok n) r input (turn r S.Ended)
-  ended zero e = refl
-  ended (suc k) e = absurd (omega arith)
+  pub part_ok : IsOk t
+  part_ok = ap is_ok part_told
 
-  pub some_read : (n : ℕ) {t : Turn} → 0 < n → BlockTurn r (take (min n (length input)) input) t → ReadTurn {E = E} (Ok n) r input t
-  some_read zero h b = absurd (omega arith)
-  some_read (suc k) h b = b
+  left_is : drop (length part - length stand.left) part ≡ stand.left
+  left_is = ap (λ c. drop (taken_of c.told).took part) (sym (answer-fits sheet (length b) r part fits)) ∙ not_taken_fits sheet (length b) r part fits
+
+  module _ {taken : Taken} (e : t ≡ Ok taken) where
+    taken_is : taken ≡ record { took = length part - length stand.left; wrote = length stand.text }
+    taken_is = let k = part_told in cc
+
+    pub wrote_within : taken.wrote ≤ length b
+    wrote_within = omega (arith, ap (λ (u : Taken). u.wrote) taken_is, text_fits sheet (length b) r [] part (omega arith))
+
+    pub took_within : taken.took ≤ length part
+    took_within = omega (arith, ap (λ (u : Taken). u.took) taken_is)
+
+    pub took_some : 0 < length part → 0 < taken.took
+    took_some h = omega (arith, ap (λ (u : Taken). u.took) taken_is, first_taken sheet (length b) r part fits h)
+
+    -- the bytes not taken make of the reader what the part would have made
+    pub goes_on : reader_after r₁ (drop taken.took part) ≡ reader_after r part
+    goes_on =
+        ap (λ (u : Taken). reader_after r₁ (drop u.took part)) taken_is
+        ∙ ap (reader_after r₁) left_is
+        ∙ ap (λ (q : Reader). reader_after q stand.left) (p.reader ∙ ap (λ c. c.reader) (answer-fits sheet (length b) r part fits))
+        ∙ same_after sheet (length b) r [] part
+
+    -- what stands first in the lent bytes is the text
+    pub answers_stand : length b₁ ≡ length b → take taken.wrote b₁ ≡ (read_from sheet (length b₁) r [] part).text
+    answers_stand l =
+        ap (λ (u : Taken). take u.wrote b₁) taken_is
+        ∙ ap (take (length stand.text)) p.bytes
+        ∙ first b stand.text (text_fits sheet (length b) r [] part (omega arith))
+        ∙ ap (λ (n : ℕ). (read_from sheet n r [] part).text) (sym l)
 
 -- ---- from turn to turn
-none : (r : Reader) (s : State) → Took r (turn r s)
+none : {r r₁ : Reader} → r₁ ≡ r → Took r r₁
 unfolding reader_after
-none r s = record { bytes = []; reader = refl }
+none e = record { bytes = []; reader = e }
 
-of_block : {r : Reader} {block : List ℕ} {t : Turn} → BlockTurn r block t → Took r t
-of_block {r} {block} BlockTurn.answered = record { bytes = block; reader = refl }
-of_block {r} BlockTurn.unwritten = none r S.Unwritten
+of_block : {A : Type 0} (r r₁ : Reader) (block : List ℕ) (turn : Result A Stop) → BlockTurn r block r₁ turn → Took r r₁
+of_block r r₁ block (Ok a) h = record { bytes = block; reader = h }
+of_block r r₁ block (Err stop) h = none h.0
 
-pub of_read : {E : Type 0} (got : Result ℕ E) {r : Reader} (input : List ℕ) {t : Turn} → ReadTurn got r input t → Took r t
-of_read (Err e) {r} input h = rw h (none r S.Unread)
-of_read (Ok zero) {r} input h = rw h (none r S.Ended)
-of_read (Ok (suc k)) input b = of_block b
+pub of_read : {E : Type 0} (got : Result ℕ E) (r r₁ : Reader) (input : List ℕ) (turn : Result Bool Stop) → ReadTurn got r input r₁ turn → Took r r₁
+of_read (Err e) r r₁ input turn h = none h.0
+of_read (Ok zero) r r₁ input turn h = none h.0
+of_read (Ok (suc k)) r r₁ input turn h = of_block r r₁ (take (min (suc k) (length input)) input) turn h.0
 
-pub begun : (r : Reader) (s : State) → r ≡ new_reader → Took new_reader (turn r s)
-unfolding reader_after
-begun r s e = record { bytes = []; reader = e }
+pub begun : (r : Reader) → Took r r
+begun r = none refl
 
 -- the list so far, and what a turn took
-pub next-turn : {first r : Reader} {s : State} {t : Turn} → Took first (turn r s) → Took r t → Took first t
-next-turn {first} l m =
+pub next-turn : {r q s : Reader} → Took r q → Took q s → Took r s
+next-turn {r} l m =
     record {
       bytes = l.bytes ++ m.bytes;
-      reader = m.reader ∙ ap (λ (q : Reader). reader_after q m.bytes) l.reader ∙ sym (after-append first l.bytes m.bytes);
+      reader = m.reader ∙ ap (λ (q : Reader). reader_after q m.bytes) l.reader ∙ sym (after-append r l.bytes m.bytes);
     }
-
--- the same reader, however far the run has come
-pub same_reader : {first : Reader} {t : Turn} (s : State) → Took first t → Took first (turn t.reader s)
-same_reader s l = record { bytes = l.bytes; reader = l.reader }
-
--- how a run ends whose input has ended: the last answer was written, or it was not
-pub ended_well : {s : State} → s ≡ S.Ended → EndTurn s S.Ended
-ended_well e = rw e (EndTurn.as_before S.Ended)
-
-pub ended_unwritten : {s : State} → s ≡ S.Ended → EndTurn s S.Unwritten
-ended_unwritten e = rw e EndTurn.last_unwritten

@@ -1,11 +1,10 @@
--- How far a run has come, turn by turn, and the status that it ends with. Definitions only.
-use Rattle.std.specs.Prelude.{ℕ, zero, suc, min, ◌≡◌, cond, List, [], ◌∷◌, eqb, Result, Ok, Err, length, take}
+-- How far a run has come, turn by turn. Definitions only.
+use Rattle.std.specs.Prelude.{ℕ, zero, suc, min, ◌≡◌, cond, true, false, Bool, List, [], ◌∷◌, eqb, Result, Ok, Err, IfOk, length, take}
 use Rattle.numerals.specs.Render.{lf}
 use Rattle.lists.specs.declared.Reader.{Reader}
 use Rattle.lists.specs.Parts.{fresh, grown}
-use Rattle.filter.specs.declared.State.{State}
-use Rattle.filter.specs.declared.State.TheVariants as S
-use Rattle.filter.specs.declared.Turn.{Turn}
+use Rattle.filter.specs.declared.Stop.{Stop}
+use Rattle.filter.specs.declared.Stop.TheVariants as S
 
 -- ---- the reader
 -- a reader once it has taken all of some bytes
@@ -14,34 +13,26 @@ unfolding grown
 reader_after r [] = r
 reader_after r (c ∷ cs) = cond (eqb c lf) (reader_after (fresh r) cs) (reader_after (grown r c) cs)
 
--- ---- turns: where one fails, the reader is the one before it
-abbrev pub turn : Reader → State → Turn
-turn r s = record { reader = r; state = s }
+-- ---- turns of the reader r, which is r₁ after them: where one fails, it is the one before it
+-- a block handed to it: all of it is taken and answered, or an answer cannot be written
+abbrev pub BlockTurn : {A : Type 0} → Reader → List ℕ → Reader → Result A Stop → Type 0
+BlockTurn r block r₁ (Ok a) = r₁ ≡ reader_after r block
+BlockTurn r block r₁ (Err stop) = (r₁ ≡ r) × (stop ≡ S.Unwritten)
 
--- a block handed to the reader r: all of it is taken and answered, or an answer cannot be written
-pub data BlockTurn (r : Reader) (block : List ℕ) : Turn → Type 0 where
-  answered : BlockTurn r block (turn (reader_after r block) S.Going)
-  unwritten : BlockTurn r block (turn r S.Unwritten)
-
--- what `read` answered, and the buffer after it: an error, and it cannot be read; at 0 it has ended; else so many of the bytes are a block
-abbrev pub ReadTurn : {E : Type 0} → Result ℕ E → Reader → List ℕ → Turn → Type 0
-ReadTurn (Err e) r input t = t ≡ turn r S.Unread
-ReadTurn (Ok zero) r input t = t ≡ turn r S.Ended
-ReadTurn (Ok (suc k)) r input t = BlockTurn r (take (min (suc k) (length input)) input) t
+-- what `read` answered, and the buffer after it: an error, and it cannot be read; at 0 it has ended; else so many of the bytes are a
+-- block, and there may be more
+abbrev pub ReadTurn : {E : Type 0} → Result ℕ E → Reader → List ℕ → Reader → Result Bool Stop → Type 0
+ReadTurn (Err e) r input r₁ turn = (r₁ ≡ r) × (turn ≡ Err S.Unread)
+ReadTurn (Ok zero) r input r₁ turn = (r₁ ≡ r) × (turn ≡ Ok false)
+ReadTurn (Ok (suc k)) r input r₁ turn = BlockTurn r (take (min (suc k) (length input)) input) r₁ turn × IfOk turn (λ more. more ≡ true)
 
 -- turns that took some bytes or none: the reader is the one after them
-pub record Took (r : Reader) (t : Turn) : Type 0 where
+pub record Took (r r₁ : Reader) : Type 0 where
   pub bytes : List ℕ
-  pub reader : t.reader ≡ reader_after r bytes
+  pub reader : r₁ ≡ reader_after r bytes
 
 -- the end of a list: its last answer is written or cannot be; where the list was not read to its end none is owed
-pub data EndTurn : State → State → Type 0 where
-  as_before : (s : State) → EndTurn s s
-  last_unwritten : EndTurn S.Ended S.Unwritten
-
--- ---- the exit status: 0 where a list was answered to its end, else 1
-abbrev pub status_of : State → ℕ
-status_of S.Going = 1
-status_of S.Ended = 0
-status_of S.Unread = 1
-status_of S.Unwritten = 1
+abbrev pub EndTurn : Result (Unit {0}) Stop → Result (Unit {0}) Stop → Type 0
+EndTurn (Ok u) (Ok v) = Unit {0}
+EndTurn (Ok u) (Err stop) = stop ≡ S.Unwritten
+EndTurn (Err stop) end = end ≡ Err stop

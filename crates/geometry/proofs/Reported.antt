@@ -4,13 +4,13 @@
 -- it is the larger; the second is at most 0.2 mm below it and is reported only where it is the smaller:
 --   RJB² = (RX - h)² + RY², (RX - h)² + ZTOR² ≤ R'² ≤ (RX - h)² + (ZTOR + W)² and RRUP² = R'² + RY²,
 -- each but for twice the square of a tenth of a millimetre. Assumes nothing.
-use Prim.Native.Nat.{ℕ, zero, suc, ◌+◌, ◌-◌, ◌*◌, ◌/◌, ◌≤◌, ◌<◌}
+use Prim.Native.Nat.{ℕ, zero, suc, ◌+◌, ◌-◌, ◌*◌, ◌/◌, ◌≤◌, ◌<◌, min, max}
 use mathlib.Core.Logic.{◌⊎◌, ⊎_elim}
 use mathlib.Core.Path.{◌≡◌, refl, ap, subst}
 use mathlib.Core.Bool.{Bool, true, false, not, cond, ◌&&◌}
 use native.Mathlib.Omega.{arith}
 use native.Mathlib.Decide.{dec_le}
-use native.Mathlib.Nat.{le_trans, le_refl, mul-le-mul, mul-le-mul_right, div-le_of_le-mul}
+use native.Mathlib.Nat.{le_trans, le_refl, mul-le-mul, mul-le-mul_right, div-le_of_le-mul, le-max_left, max-le, max-eq_left, max-eq_right, min-le_left, min-eq_left, min-eq_right}
 use lib.Dec.{T, eqb, leb, ltb}
 use lib.IntN.{ℤ, pos, nat_abs}
 use lib.Signed.{lt_z, le_z}
@@ -21,7 +21,7 @@ use Rattle.exact.specs.Near.{NearZ, dn}
 use Rattle.exact.proofs.Root.{root_is, side-lt}
 use Rattle.exact.proofs.Signed.{by_sign, abs-parts, lt-parts, le_parts}
 use Rattle.geometry.specs.Geometry.{r_prime, rrup, cos_size, rrup_e, hanging_wall_e, ceil_root, on_hanging_wall, rupture_distance_e, RuptureInRange}
-use Rattle.geometry.specs.Fixed.{cos9, site_fixed, from_plan_fixed, hanging_wall_fixed, larger, smaller, rupture_distance}
+use Rattle.geometry.specs.Fixed.{cos9, site_fixed, from_plan_fixed, hanging_wall_fixed, rupture_distance}
 use Rattle.geometry.specs.declared.Place.{Place}
 use Rattle.geometry.proofs.Lengths.{square_mono, side-le, triangle}
 use Rattle.geometry.proofs.Scales.{Scale, Near, metres, width-near}
@@ -190,57 +190,26 @@ ceil_before n = go (ceil_root n) refl
         either (yes l) = absurd (omega (arith, ceil_least n p l))
         either (no l) = omega arith
 
--- ---- the larger of two
-larger-left : (m n : ℕ) → m ≤ larger m n
-larger-left m n = go (leb m n) refl
+-- ---- the larger and the smaller of two
+larger-near : (S m n D : ℕ) → Near S 2 n D → (m - 1) * S ≤ D + S → Near S 2 (max m n) D
+larger-near S m n D a b = either (dec_le m n)
   where
-    go : (t : Bool) → leb m n ≡ t → m ≤ cond t n m
-    go true e = leb-true m n e
-    go false e = le_refl m
+    one : (m : ℕ) → m ≤ m - 1 + 1
+    one m = omega arith
 
-larger-most : (m n b : ℕ) → m ≤ b → n ≤ b → larger m n ≤ b
-larger-most m n b h k = go (leb m n)
+    either : Dec (m ≤ n) → Near S 2 (max m n) D
+    either (yes l) = rw (max-eq_right l) a
+    either (no l) =
+        let g : n ≤ m = omega arith in
+        rw (max-eq_left g)
+        (record { low = omega (arith, b, mul-le-mul_right S (one m)); high = omega (arith, mul-le-mul_right S g) })
+
+smaller-near : (S m n D : ℕ) → Near S 2 n D → D ≤ m * S + S → Near S 2 (min m n) D
+smaller-near S m n D a b = either (dec_le m n)
   where
-    go : (t : Bool) → cond t n m ≤ b
-    go true = k
-    go false = h
-
-larger-near : (S m n D : ℕ) → Near S 2 n D → (m - 1) * S ≤ D + S → Near S 2 (larger m n) D
-larger-near S m n D a b = go (leb m n) refl
-  where
-    least : m * S ≤ D + 2 * S
-    least = omega (arith, b, mul-le-mul_right S (one m))
-      where
-        one : (m : ℕ) → m ≤ m - 1 + 1
-        one m = omega arith
-
-    go : (t : Bool) → leb m n ≡ t → Near S 2 (cond t n m) D
-    go true e = a
-    go false e =
-        let l : n ≤ m = omega (arith, leb-false m n e) in
-        record { low = least; high = omega (arith, mul-le-mul_right S l) }
-
--- ---- the smaller of two
-smaller-left : (m n : ℕ) → smaller m n ≤ m
-smaller-left m n = go (leb m n) refl
-  where
-    go : (t : Bool) → leb m n ≡ t → cond t m n ≤ m
-    go true e = le_refl m
-    go false e = omega (arith, leb-false m n e)
-
-pub smaller-right : (m n : ℕ) → smaller m n ≤ n
-smaller-right m n = go (leb m n) refl
-  where
-    go : (t : Bool) → leb m n ≡ t → cond t m n ≤ n
-    go true e = leb-true m n e
-    go false e = le_refl n
-
-smaller-near : (S m n D : ℕ) → Near S 2 n D → D ≤ m * S + S → Near S 2 (smaller m n) D
-smaller-near S m n D a b = go (leb m n) refl
-  where
-    go : (t : Bool) → leb m n ≡ t → Near S 2 (cond t m n) D
-    go true e = record { low = omega (arith, a.low, mul-le-mul_right S (leb-true m n e)); high = omega arith }
-    go false e = a
+    either : Dec (m ≤ n) → Near S 2 (min m n) D
+    either (yes l) = rw (min-eq_left l) (record { low = omega (arith, a.low, mul-le-mul_right S l); high = omega arith })
+    either (no l) = let g : n ≤ m = omega arith in rw (min-eq_right g) a
 
 -- ---- the two sides of the test
 signed : {M e a b : ℕ} → Near M e a b → NearZ M e (pos a) (pos b)
@@ -277,8 +246,8 @@ hanging_wall dip azimuth e =
 -- the definitions by that test
 pub distance_on : (dip : ℕ) (azimuth : ℤ) (w ztor rjb : ℕ) → on_hanging_wall dip azimuth ≡ true
     → (rupture_distance dip azimuth w ztor rjb
-    ≡ larger (ceil_root (rjb * rjb + ztor * ztor))
-    (smaller (ceil_root (rjb * rjb + (ztor + w) * (ztor + w))) (hanging_wall_fixed dip (nat_abs azimuth) w ztor rjb)))
+    ≡ max (ceil_root (rjb * rjb + ztor * ztor))
+    (min (ceil_root (rjb * rjb + (ztor + w) * (ztor + w))) (hanging_wall_fixed dip (nat_abs azimuth) w ztor rjb)))
     × (rupture_distance_e dip azimuth w ztor rjb ≡ hanging_wall_e dip (nat_abs azimuth) w ztor rjb)
 unfolding rupture_distance rupture_distance_e
 distance_on dip azimuth w ztor rjb e = (rw (e, rupture_distance), rw (e, rupture_distance_e))
@@ -313,7 +282,7 @@ reported_near dip azimuth w ztor rjb ranges = signed (go (on_hanging_wall dip az
         let o = hanging_wall dip azimuth e in
         let is = distance_on dip azimuth w ztor rjb e in
         rw (is.0, is.1)
-        (larger-near E30 (ceil_root n) (smaller most (hanging_wall_fixed dip a w ztor rjb)) (hanging_wall_e dip a w ztor rjb)
+        (larger-near E30 (ceil_root n) (min most (hanging_wall_fixed dip a w ztor rjb)) (hanging_wall_e dip a w ztor rjb)
         (smaller-near E30 most (hanging_wall_fixed dip a w ztor rjb) (hanging_wall_e dip a w ztor rjb)
         (hanging_near dip a w ztor rjb ranges o.dip-lt o.a_low o.a_high)
         (le_trans
@@ -331,7 +300,7 @@ reported_above dip azimuth w ztor rjb = le_trans (ceil_above n) (square_mono _ _
     n = rjb * rjb + ztor * ztor
 
     go : (t : Bool) → on_hanging_wall dip azimuth ≡ t → ceil_root n ≤ rupture_distance dip azimuth w ztor rjb
-    go true e = rw (distance_on dip azimuth w ztor rjb e).0 (larger-left (ceil_root n) _)
+    go true e = rw (distance_on dip azimuth w ztor rjb e).0 (le-max_left (ceil_root n) _)
     go false e = rw (distance_off dip azimuth w ztor rjb e).0 (le_refl (ceil_root n))
 
 -- a metre less is never above the root of RJB² + (ZTOR + W)²
@@ -352,7 +321,7 @@ reported_below dip azimuth w ztor rjb = le_trans (square_mono _ _ (less (go (on_
     least-most = ceil_least n (ceil_root N) (le_trans (omega arith) (ceil_above N))
 
     go : (t : Bool) → on_hanging_wall dip azimuth ≡ t → rupture_distance dip azimuth w ztor rjb ≤ ceil_root N
-    go true e = rw (distance_on dip azimuth w ztor rjb e).0 (larger-most (ceil_root n) _ (ceil_root N) least-most (smaller-left (ceil_root N) _))
+    go true e = rw (distance_on dip azimuth w ztor rjb e).0 (max-le least-most (min-le_left (ceil_root N) _))
     go false e = rw (distance_off dip azimuth w ztor rjb e).0 least-most
 
 -- at a vertical fault, in line with the top edge and on the footwall the smallest whole metre not below that root

@@ -3,17 +3,16 @@
 -- (1000 ZTOR)² (s² + c²), and s² + c² is above 1 by less than 10^-8. Assumes nothing.
 use Prim.Native.Nat.{ℕ, ◌+◌, ◌-◌, ◌*◌, ◌/◌, ◌≤◌, zero-le}
 use mathlib.Core.Path.{◌≡◌, refl, sym, ap, subst, ◌∙◌}
-use mathlib.Core.Bool.{Bool, true, false, cond}
+use mathlib.Core.Bool.{Bool, true, false}
 use native.Mathlib.Omega.{arith}
-use native.Mathlib.Nat.{le_trans, le_of_eq, mul-le-mul_left, mul-pos, zero-mul, zero-div}
-use lib.Dec.{leb}
-use borrow.Author.Tests.{ne_eqb, leb-true}
+use native.Mathlib.Nat.{le_trans, le_of_eq, mul-le-mul_left, mul-pos, zero-mul, zero-div, max-eq_left, min-le_right}
+use borrow.Author.Tests.{ne_eqb}
 use lib.IntN.{ℤ, pos, negsuc}
 use Rattle.exact.specs.Root.{root, IsRoot}
 use Rattle.exact.specs.Exact.{E30}
 use Rattle.exact.proofs.Root.{root_is, root-one, side-lt}
 use Rattle.geometry.specs.Geometry.{tangent, rx, ry, r_prime, rrup, sin_size, cos_size, rrup_e, hanging_wall_e, ceil_root, on_hanging_wall, rupture_distance_e, RuptureInRange}
-use Rattle.geometry.specs.Fixed.{sin9, cos9, projected_width_fixed, site_fixed, off_plane_fixed, off_edges_fixed, rrup_fixed, from_plan_fixed, hanging_wall_fixed, larger, rupture_distance}
+use Rattle.geometry.specs.Fixed.{sin9, cos9, projected_width_fixed, site_fixed, off_plane_fixed, off_edges_fixed, rrup_fixed, from_plan_fixed, hanging_wall_fixed, rupture_distance}
 use Rattle.geometry.specs.declared.Place.{Place}
 use Rattle.exact.proofs.Quotients.{cancel}
 use Rattle.geometry.proofs.Lengths.{square-mul, square_mono, side-le}
@@ -21,7 +20,7 @@ use Rattle.geometry.proofs.Scales.{Scale, S_pos}
 use Rattle.geometry.proofs.Angles.{Angle, WholeDegree, degrees, scale30}
 use Rattle.geometry.proofs.PlanNear.{rx_beside, place_beside}
 use Rattle.geometry.proofs.Zones.{by_zone}
-use Rattle.geometry.proofs.Reported.{HangingWall, hanging_wall, ceil_above, ceil_least, distance_on, distance_off, smaller-right}
+use Rattle.geometry.proofs.Reported.{HangingWall, hanging_wall, ceil_above, ceil_least, distance_on, distance_off}
 
 -- ---- exact
 -- the root of a square
@@ -89,13 +88,6 @@ ceil_square z =
       ceil_least (0 * 0 + z * z) z (omega arith),
     )
 
-larger-same : (m n : ℕ) → n ≤ m → larger m n ≡ m
-larger-same m n h = go (leb m n) refl
-  where
-    go : (t : Bool) → leb m n ≡ t → cond t n m ≡ m
-    go true e = omega (arith, leb-true m n e)
-    go false e = refl
-
 -- ---- of whole degrees
 module _ (dip a w z : ℕ) (ranges : RuptureInRange dip w z 0) (o : HangingWall dip (pos a)) (not_90 : a ≡ 90 → ⊥) where
   dip_degree : WholeDegree dip
@@ -141,8 +133,7 @@ reported_top_edge dip azimuth w ztor ranges not_90 = go azimuth not_90 (on_hangi
         let o = hanging_wall dip (pos a) e in
         let site_le = fixed_zero dip a w ztor ranges o (λ q. n (ap pos q)) in (
           is.0
-              ∙ larger-same (ceil_root (0 * 0 + ztor * ztor)) _
-              (le_trans (smaller-right _ (hanging_wall_fixed dip a w ztor 0)) (le_trans site_le (le_of_eq (sym (ceil_square ztor)))))
+              ∙ max-eq_left (le_trans (min-le_right _ (hanging_wall_fixed dip a w ztor 0)) (le_trans site_le (le_of_eq (sym (ceil_square ztor)))))
               ∙ ceil_square ztor,
           is.1 ∙ exact_zero dip a w ztor ranges o (λ q. n (ap pos q)),
         )

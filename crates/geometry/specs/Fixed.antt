@@ -1,6 +1,6 @@
 -- What the 64-bit functions of `rupture` give, sines and cosines in units of 10^-9: the plan in tenths of a millimetre, the section in
 -- millimetres, what is reported in metres. Definitions only.
-use Rattle.std.specs.Prelude.{ℕ, ◌+◌, ◌-◌, ◌*◌, ◌/◌, Bool, true, false, cond, eqb, leb, ℤ, nat_abs}
+use Rattle.std.specs.Prelude.{ℕ, ◌+◌, ◌-◌, ◌*◌, ◌/◌, min, max, Bool, true, false, eqb, leb, ℤ, nat_abs}
 use Rattle.exact.specs.Root.{root}
 use Rattle.fixed.specs.Fixed.{E9, sin_fixed, cos_fixed}
 use Rattle.geometry.specs.Geometry.{ceil_root, on_hanging_wall}
@@ -76,14 +76,6 @@ unfoldable pub hanging_wall_fixed : ℕ → ℕ → ℕ → ℕ → ℕ → ℕ
 unfolding from_plan_fixed site_fixed cos9
 hanging_wall_fixed dip a w ztor rjb = from_plan_fixed dip w ztor (site_fixed a (projected_width_fixed w (cos9 dip)) rjb)
 
--- the larger of two
-abbrev pub larger : ℕ → ℕ → ℕ
-larger m n = cond (leb m n) n m
-
--- the smaller of two
-abbrev pub smaller : ℕ → ℕ → ℕ
-smaller m n = cond (leb m n) m n
-
 -- the smallest whole metre not below the root of RJB² + ZTOR²; on the hanging wall RRUP rounded up, held between that and the smallest
 -- whole metre not below the root of RJB² + (ZTOR + W)²
 unfoldable pub rupture_distance : ℕ → ℤ → ℕ → ℕ → ℕ → ℕ
@@ -92,6 +84,6 @@ rupture_distance dip azimuth w ztor rjb =
     let least : ℕ = ceil_root (rjb * rjb + ztor * ztor) in
     let most : ℕ = ceil_root (rjb * rjb + (ztor + w) * (ztor + w)) in
     elim (on_hanging_wall dip azimuth) [
-      | true ↦ larger least (smaller most (hanging_wall_fixed dip (nat_abs azimuth) w ztor rjb))
+      | true ↦ max least (min most (hanging_wall_fixed dip (nat_abs azimuth) w ztor rjb))
       | false ↦ least
     ]

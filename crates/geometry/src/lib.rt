@@ -4,7 +4,7 @@
 #![tactic(auto)]
 
 // Where the site lies on the plan: RX across the strike and RY along it, in tenths of a millimetre.
-#[derive(Drop)]
+#[derive(Clone, Copy)]
 pub struct Place {
     pub x: u64,
     pub y: u64,

@@ -1,20 +1,15 @@
 -- A reader written into lent bytes is found there again, and the bytes of the reader found in some are those. Assumes nothing.
 use Prim.Native.Nat.{ℕ, suc, ◌+◌, ◌≤◌}
 use mathlib.Core.Path.{◌≡◌, refl, sym, ap, ◌∙◌}
-use mathlib.Core.List.{List, [], ◌∷◌, ◌++◌, append_assoc, append-nil}
+use mathlib.Core.List.{List, [], ◌∷◌, ◌++◌, append_assoc}
 use native.Mathlib.Omega.{arith}
-use lib.ListN.{length, get_or, take, drop, length-append, drop_of_length-le}
+use lib.ListN.{length, get_or, take, drop, length-append}
 use lib.Seq.{length-take-le, take-suc, take_at, get_or_at}
 use Rattle.lent.specs.Lent.{put}
 use Rattle.lent.proofs.PartLaws.{put_front}
 use Rattle.text.specs.Grammar.{longest}
 use Rattle.lists.specs.declared.Reader.{Reader}
 use Rattle.kept.specs.Kept.{reader_size, reader_bytes, reader_in}
-
--- ---- written over the whole of what is lent
-pub put_whole : (b s : List ℕ) → length s ≡ length b → put b 0 s ≡ s
-unfolding put
-put_whole b s e = ap (λ (l : List ℕ). s ++ l) (drop_of_length-le b {i = 0 + length s} (omega (arith, e))) ∙ append-nil s
 
 -- ---- found again
 pub length-bytes : (r : Reader) → length r.held ≡ longest → length (reader_bytes r) ≡ reader_size

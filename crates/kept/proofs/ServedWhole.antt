@@ -6,10 +6,13 @@ use mathlib.Core.Bool.{Bool, true, false}
 use mathlib.Core.List.{List, [], ◌++◌}
 use native.Mathlib.Nat.{zero-add}
 use native.Mathlib.Omega.{arith}
-use borrow.Author.Tests.{le-ltb, eqb-true, eqb-false, ltb-true, ltb-false}
-use lib.Dec.{eqb, ltb}
+use borrow.Author.Tests.{le-ltb, ltb-true, ltb-false}
+use lib.Dec.{ltb}
 use lib.ListN.{length, take, drop, length-replicate}
-use Rattle.refusals.specs.Order as No
+use Rattle.std.specs.Prelude.{Some, Result, Ok, Err, IsOk}
+use Rattle.refusals.specs.declared.Refusal.{Refusal}
+use Rattle.refusals.specs.declared.Refusal.TheVariants as No
+use Rattle.refusals.specs.Order.{number_of}
 use Rattle.lent.specs.Lent.{put, after}
 use Rattle.lent.proofs.PutLaws.{take_put, length-put}
 use Rattle.lent.proofs.WroteLaws.{after-fits}
@@ -18,41 +21,39 @@ use Rattle.answer.specs.declared.Sheet.{Sheet}
 use Rattle.lists.specs.declared.Reader.{Reader}
 use Rattle.lists.specs.declared.Taken.{Taken}
 use Rattle.lists.specs.Whole.{answers_from, answers_to}
-use Rattle.lists.specs.Parts.{line_in, new_reader, closing, stand_in, part_answer, close_answer, not_taken}
+use Rattle.lists.specs.Parts.{line_in, new_reader, closing, stand_in, Called, part_answer, close_answer, taken_of, PartTaken, Closed, not_taken}
 use Rattle.lists.proofs.StandLaws.{text_fits}
-use Rattle.lists.proofs.Progress.{wrote-is}
-use Rattle.lists.proofs.CloseLaws.{close_fits, close_fitted}
+use Rattle.lists.proofs.Progress.{wrote-is, zero_or_sixteen}
+use Rattle.lists.proofs.CloseLaws.{close_fits, close_fitted, close_zero_or_sixteen}
 use Rattle.lists.proofs.WholeList.{no_line_lem, next-full, one_call, closing-is}
 use Rattle.kept.specs.Kept.{reader_size, reader_bytes, reader_in}
 use Rattle.kept.proofs.KeptLaws.{found_again, held-full, length-bytes}
-use Rattle.kept.specs.declared.calls.Asked.TheVariants as A
-use Rattle.kept.specs.Calls.{Loan, loan, told, begin_told, part_told, close_told, Served, taken, refused, closed, unclosed}
+use Rattle.kept.specs.Calls.{Loan, loan, told, none_taken, begin_told, part_told, close_told, Served, taken, refused, closed, unclosed}
 use Rattle.kept.proofs.TellLaws.{told-refused, told-taken, begin_misuse}
 
 -- ---- told
-module _ (l l₁ : Loan) (t : Taken) (out : List ℕ) where
+-- a refusal is TooLong
+abbrev OnlyTooLong : {A : Type 0} → Result A Refusal → Type 0
+OnlyTooLong t = (n : Refusal) → t ≡ Err n → n ≡ No.TooLong
+
+-- of a close too, told as one that takes none
+only-close : (t : Result ℕ Refusal) → OnlyTooLong t → OnlyTooLong (none_taken t)
+only-close (Ok m) only n e = absurd cc
+only-close (Err k) only n e = let same : k ≡ n = cc in sym same ∙ only k refl
+
+module _ (l l₁ : Loan) (r : Reader) (out : List ℕ) where
   -- 0 was told: the reader was not refused, and what it answered stands in what was lent
-  told_zero : told l t out ≡ (0, l₁) → (t.refusal ≡ 0) × (l₁ ≡ loan (put l.reader 0 (reader_bytes t.reader)) out t.took t.wrote)
-  told_zero e = go (eqb t.refusal 0) refl
-    where
-      go :
-          (u : Bool) → eqb t.refusal 0 ≡ u
-          → (t.refusal ≡ 0) × (l₁ ≡ loan (put l.reader 0 (reader_bytes t.reader)) out t.took t.wrote)
-      go true f =
-          let n = eqb-true t.refusal 0 f in
-          (n, ap (λ (p : ℕ × Loan). p.1) (sym e ∙ told-taken l t out n))
-      go false f =
-          let n = eqb-false t.refusal 0 f in
-          absurd (n (ap (λ (p : ℕ × Loan). p.0) (sym (told-refused l t out n) ∙ e)))
+  told_zero :
+      (t : Result Taken Refusal) → OnlyTooLong t → told l t r out ≡ (0, l₁)
+      → IsOk t × (l₁ ≡ loan (put l.reader 0 (reader_bytes r)) out (taken_of t).took (taken_of t).wrote)
+  told_zero (Ok t) only e = (refl, ap (λ (p : ℕ × Loan). p.1) (sym e ∙ told-taken l t r out))
+  told_zero (Err n) only e =
+      absurd (omega (arith, ap number_of (only n refl), ap (λ (p : ℕ × Loan). p.0) (sym (told-refused l n r out) ∙ e)))
 
   -- 16 was told: all is as it was
-  told_sixteen : told l t out ≡ (No.too_long, l₁) → l₁ ≡ l
-  told_sixteen e = go (eqb t.refusal 0) refl
-    where
-      go : (u : Bool) → eqb t.refusal 0 ≡ u → l₁ ≡ l
-      go true f =
-          absurd (omega (arith, ap (λ (p : ℕ × Loan). p.0) (sym e ∙ told-taken l t out (eqb-true t.refusal 0 f))))
-      go false f = ap (λ (p : ℕ × Loan). p.1) (sym e ∙ told-refused l t out (eqb-false t.refusal 0 f))
+  told_sixteen : (t : Result Taken Refusal) → told l t r out ≡ (number_of No.TooLong, l₁) → l₁ ≡ l
+  told_sixteen (Ok t) e = absurd (omega (arith, ap (λ (p : ℕ × Loan). p.0) (sym e ∙ told-taken l t r out)))
+  told_sixteen (Err n) e = ap (λ (p : ℕ × Loan). p.1) (sym e ∙ told-refused l n r out)
 
 -- ---- a call
 -- with bytes enough for a reader
@@ -63,11 +64,25 @@ module _ (sheet : Sheet) (l : Loan) (h : reader_size ≤ length l.reader) where
   abbrev room : ℕ
   room = length l.out
 
-  part_goes : (part : List ℕ) → part_told (A.Sheet sheet) part l ≡ told l (part_answer sheet room reader part) (put l.out 0 (stand_in sheet room reader part).text)
+  part_goes :
+      (part : List ℕ)
+      → part_told (Some sheet) part l
+      ≡ told l (part_answer sheet room reader part).told (part_answer sheet room reader part).reader
+      (put l.out 0 (stand_in sheet room reader part).text)
   unfolding part_told
   part_goes part = rw (le-ltb (length l.reader) reader_size h)
 
-  close_goes : close_told l ≡ told l (close_answer room reader) (after l.out (closing reader))
+  answered :
+      (part : List ℕ)
+      → PartTaken sheet reader part l.out (part_answer sheet room reader part).told (part_answer sheet room reader part).reader
+      (put l.out 0 (stand_in sheet room reader part).text)
+  answered part = record { answer = refl; reader = refl; bytes = refl }
+
+  closed_so : Closed reader l.out (close_answer room reader).told (close_answer room reader).reader (after l.out (closing reader))
+  closed_so = record { answer = refl; reader = refl; bytes = refl }
+
+  close_goes :
+      close_told l ≡ told l (none_taken (close_answer room reader).told) (close_answer room reader).reader (after l.out (closing reader))
   unfolding close_told
   close_goes = rw (le-ltb (length l.reader) reader_size h)
 
@@ -77,12 +92,16 @@ module _ (sheet : Sheet) (l : Loan) (h : reader_size ≤ length l.reader) where
 
   module _ (l₁ : Loan) where
     -- a part that is taken
-    module _ (part : List ℕ) (e : part_told (A.Sheet sheet) part l ≡ (0, l₁)) where
-      abbrev t : Taken
+    module _ (part : List ℕ) (e : part_told (Some sheet) part l ≡ (0, l₁)) where
+      abbrev t : Called Taken
       t = part_answer sheet room reader part
 
-      left : l₁ ≡ loan (put l.reader 0 (reader_bytes t.reader)) (put l.out 0 (stand_in sheet room reader part).text) t.took t.wrote
-      left = (told_zero l l₁ t (put l.out 0 (stand_in sheet room reader part).text) (sym (part_goes part) ∙ e)).1
+      left :
+          l₁
+          ≡ loan (put l.reader 0 (reader_bytes t.reader)) (put l.out 0 (stand_in sheet room reader part).text) (taken_of t.told).took
+          (taken_of t.told).wrote
+      left = (told_zero l l₁ t.reader (put l.out 0 (stand_in sheet room reader part).text) t.told
+          (zero_or_sixteen (answered part)) (sym (part_goes part) ∙ e)).1
 
       next-held : length t.reader.held ≡ longest
       next-held = next-full sheet room reader part (held-full l.reader h)
@@ -111,19 +130,28 @@ module _ (sheet : Sheet) (l : Loan) (h : reader_size ≤ length l.reader) where
     -- a close that is not refused
     close_text : close_told l ≡ (0, l₁) → take l₁.wrote l₁.out ≡ closing reader
     close_text e =
-        let z = told_zero l l₁ (close_answer room reader) (after l.out (closing reader)) (sym close_goes ∙ e) in
-        let k = close_fitted room reader z.0 in
+        let c = close_answer room reader in
+        let z = told_zero l l₁ c.reader (after l.out (closing reader)) (none_taken c.told) (only-close c.told (close_zero_or_sixteen closed_so)) (sym close_goes ∙ e) in
+        let k = close_fitted room reader (ok_again c.told z.0) in
         ap (λ (m : Loan). take m.wrote m.out) z.1
-        ∙ ap (λ (u : Taken). take u.wrote (after l.out (closing reader))) (close_fits room reader k)
+        ∙ ap (λ (u : Called ℕ). take (taken_of (none_taken u.told)).wrote (after l.out (closing reader))) (close_fits room reader k)
         ∙ ap (take (length (closing reader))) (after-fits l.out (closing reader) k)
         ∙ first (closing reader) k
+      where
+        ok_again : (t : Result ℕ Refusal) → IsOk (none_taken t) → IsOk t
+        ok_again (Ok n) h = refl
+        ok_again (Err n) h = absurd cc
 
     -- a refusal leaves all as it was
-    part_same : (part : List ℕ) → part_told (A.Sheet sheet) part l ≡ (No.too_long, l₁) → l₁ ≡ l
-    part_same part e = told_sixteen l l₁ (part_answer sheet room reader part) (put l.out 0 (stand_in sheet room reader part).text) (sym (part_goes part) ∙ e)
+    part_same : (part : List ℕ) → part_told (Some sheet) part l ≡ (number_of No.TooLong, l₁) → l₁ ≡ l
+    part_same part e =
+        let c = part_answer sheet room reader part in
+        told_sixteen l l₁ c.reader (put l.out 0 (stand_in sheet room reader part).text) c.told (sym (part_goes part) ∙ e)
 
-    close_same : close_told l ≡ (No.too_long, l₁) → l₁ ≡ l
-    close_same e = told_sixteen l l₁ (close_answer room reader) (after l.out (closing reader)) (sym close_goes ∙ e)
+    close_same : close_told l ≡ (number_of No.TooLong, l₁) → l₁ ≡ l
+    close_same e =
+        let c = close_answer room reader in
+        told_sixteen l l₁ c.reader (after l.out (closing reader)) (none_taken c.told) (sym close_goes ∙ e)
 
 -- ---- the calls of a list
 -- are those of its reader

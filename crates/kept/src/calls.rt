@@ -1,47 +1,48 @@
-// A list in parts, its reader in lent bytes. Whatever stands in them, it is some reader. A call that is wrong in itself is answered with MISUSE, and a refusal or a misuse leaves all
-// that was lent as it was.
-ghost use Rattle.std.specs.Prelude.{◌≡◌};
+// A list in parts, its reader in lent bytes. Whatever stands in them, it is some reader. A fault leaves all
+// that was lent as it was. How many bytes were taken and written goes into lent numbers, as C takes them.
+ghost use Rattle.std.specs.Prelude.{◌≡◌, ◌<◌, ◌≤◌, length, MatchResult};
+ghost use Rattle.kept.specs.declared.faults.Fault.TheVariants.{Misuse};
+ghost use Rattle.kept.specs.Faults.{number_in};
+ghost use Rattle.kept.specs.Kept.{reader_size};
 ghost use Rattle.kept.specs.Calls.{loan, numbered, begin_told, part_told, close_told};
 
+use crate::faults::Fault;
 use crate::{READER, put_reader, reader_in};
 use answer::Sheet;
-use lists::{close_list, new_reader, take_part};
-
-// The number of a call that is wrong in itself, which is no refusal.
-pub const MISUSE: u32 = 255;
-
-// A sheet asked for by its number, or none that there is.
-#[derive(Drop)]
-pub enum Asked {
-    Sheet(Sheet),
-    None,
-}
+use lists::{Reader, close_list, take_part};
 
 // The sheet of a number.
-pub fn sheet_numbered(n: u64) -> Asked
+#[tactic(auto, unfolding(crate::specs::Calls::numbered))]
+pub fn sheet_numbered(n: u64) -> Option<Sheet>
     ensures { result ≡ numbered n }
 {
-    if n == 0 {
-        return Asked::Sheet(Sheet::Completion);
+    match n {
+        0 => Some(Sheet::Completion),
+        1 => Some(Sheet::Prediction),
+        _ => None,
     }
-    if n == 1 {
-        return Asked::Sheet(Sheet::Prediction);
-    }
-    Asked::None
 }
 
-// A reader before the first byte of a list: 0, or MISUSE where it is lent too few bytes.
-pub fn begin_reader(reader: &mut [u8]) -> u32
-    ensures { (result, reader.new) ≡ begin_told reader.old }
+// Misuse where too few bytes are lent for a reader.
+fn check_size(reader: &[u8]) -> Result<(), Fault>
+    ensures { MatchResult result (λ _. reader_size ≤ length reader.now) (λ fault. (fault ≡ Misuse) × (length reader.now < reader_size)) }
 {
-    if READER <= reader.len() {
-        put_reader(reader, new_reader());
-        return 0;
+    if reader.len() < READER {
+        return Err(Fault::Misuse);
     }
-    MISUSE
+    Ok(())
 }
 
-// A part of a list: 0, with how many of its bytes were taken and how many written; or TOO_LONG.
+// A reader before the first byte of a list; Misuse where it is lent too few bytes.
+pub fn begin_reader(reader: &mut [u8]) -> Result<(), Fault>
+    ensures { (number_in result, reader.new) ≡ begin_told reader.old }
+{
+    check_size(reader)?;
+    put_reader(reader, Reader::new());
+    Ok(())
+}
+
+// A part of a list, with how many of its bytes were taken and how many written; or TooLong.
 pub fn take_in(
     reader: &mut [u8],
     sheet: u64,
@@ -49,41 +50,27 @@ pub fn take_in(
     out: &mut [u8],
     took: &mut u64,
     wrote: &mut u64,
-) -> u32
-    ensures { (result, loan reader.new out.new took.new wrote.new) ≡ part_told (numbered sheet) part.now (loan reader.old out.old took.old wrote.old) }
+) -> Result<(), Fault>
+    ensures { (number_in result, loan reader.new out.new took.new wrote.new) ≡ part_told (numbered sheet) part.now (loan reader.old out.old took.old wrote.old) }
 {
-    if reader.len() < READER {
-        return MISUSE;
-    }
-    let Asked::Sheet(s) = sheet_numbered(sheet) else {
-        return MISUSE;
-    };
-    let taken = take_part(s, reader_in(reader), part, out);
-    let refusal = taken.refusal;
-    if refusal != 0 {
-        return refusal;
-    }
-    let next = taken.reader;
-    put_reader(reader, next);
+    check_size(reader)?;
+    let sheet = sheet_numbered(sheet).ok_or(Fault::Misuse)?;
+    let mut now = reader_in(reader);
+    let taken = take_part(sheet, &mut now, part, out)?;
+    put_reader(reader, now);
     *took = taken.took as u64;
     *wrote = taken.wrote as u64;
-    0
+    Ok(())
 }
 
-// The end of a list: 0, with how many bytes were written, and a new reader; or TOO_LONG.
-pub fn close_in(reader: &mut [u8], out: &mut [u8], wrote: &mut u64) -> u32
-    ensures { (result, loan reader.new out.new 0 wrote.new) ≡ close_told (loan reader.old out.old 0 wrote.old) }
+// The end of a list, with how many bytes were written, and a new reader; or TooLong.
+pub fn close_in(reader: &mut [u8], out: &mut [u8], wrote: &mut u64) -> Result<(), Fault>
+    ensures { (number_in result, loan reader.new out.new 0 wrote.new) ≡ close_told (loan reader.old out.old 0 wrote.old) }
 {
-    if reader.len() < READER {
-        return MISUSE;
-    }
-    let closed = close_list(reader_in(reader), out);
-    let number = closed.refusal;
-    if number != 0 {
-        return number;
-    }
-    let next = closed.reader;
-    put_reader(reader, next);
-    *wrote = closed.wrote as u64;
-    0
+    check_size(reader)?;
+    let mut now = reader_in(reader);
+    let n = close_list(&mut now, out)?;
+    put_reader(reader, now);
+    *wrote = n as u64;
+    Ok(())
 }

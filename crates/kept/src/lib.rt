@@ -3,13 +3,15 @@
 #![tactic(auto)]
 
 mod calls;
+mod faults;
 
 ghost use Rattle.std.specs.Prelude.{◌≡◌, ◌≤◌, length};
 ghost use Rattle.lent.specs.Lent.{Written};
 ghost use Rattle.kept.specs.Kept.{reader_size, reader_bytes, reader_in};
 
-pub use calls::{Asked, MISUSE, begin_reader, close_in, sheet_numbered, take_in};
-use lent::{put_byte, put_text};
+pub use calls::{begin_reader, close_in, sheet_numbered, take_in};
+pub use faults::{Fault, number_in};
+use lent::{put_byte, put_slice};
 use lists::Reader;
 use text::LONGEST;
 
@@ -21,12 +23,11 @@ fn reader_in(b: &[u8]) -> Reader
     requires { reader_size ≤ length b.now }
     ensures { result ≡ reader_in b.now }
 {
-    let mut held = [0u8; LONGEST];
-    put_text(&mut held, 0, &b[..LONGEST]);
-    let count = b[LONGEST];
+    let mut held = [0; LONGEST];
+    held.copy_from_slice(&b[..LONGEST]);
     Reader {
-        held: held,
-        count: count,
+        held,
+        count: b[LONGEST],
     }
 }
 
@@ -35,7 +36,6 @@ fn put_reader(b: &mut [u8], r: Reader) -> usize
     requires { reader_size ≤ length b.old }
     ensures { Written b.old 0 (reader_bytes r) result b.new }
 {
-    let held = r.held;
-    let at = put_text(b, 0, &held);
+    let at = put_slice(b, 0, &r.held);
     put_byte(b, at, r.count)
 }

@@ -1,12 +1,13 @@
--- What is written after something is both written at once; an element set is a list of one written; a list written element by element.
+-- What is written after something is both written at once; an element set is a list of one written, a part overwritten a list as long as it.
 -- Assumes nothing.
-use Prim.Native.Nat.{ℕ, ◌+◌, ◌≤◌, ◌<◌}
+use Prim.Native.Nat.{ℕ, ◌+◌, ◌-◌, ◌≤◌, ◌<◌}
 use mathlib.Core.Path.{◌≡◌, refl, sym, ap, ◌∙◌}
 use mathlib.Core.List.{List, [], ◌∷◌, ◌++◌, append_assoc}
 use native.Mathlib.Omega.{arith}
 use native.Mathlib.Numerals.{add-one}
-use lib.ListN.{length, get_or, take, drop, set, length-append, length-drop, take-append-drop}
-use lib.Seq.{set_split, length-take-le, take_at, drop_at, drop-drop, take-append_seam, take-suc}
+use borrow.Rule.Slice.PartMut.{put_mid}
+use lib.ListN.{length, take, drop, set, length-append, length-drop, take-append-drop}
+use lib.Seq.{set_split, length-take-le, take_at, drop_at, drop-drop, take-append_seam}
 use Rattle.lent.specs.Lent.{put, Written}
 
 pub put_one : {A : Type 0} (b : List A) (p : ℕ) (v : A) → p < length b → set b p v ≡ put b p (v ∷ [])
@@ -57,23 +58,21 @@ module _ {A : Type 0} (b : List A) (p : ℕ) (s : List A) (room : p + length s �
       later : drop (p + length s + length t) (put b p s) ≡ drop (p + length s + length t) b
       later = sym (drop-drop (length t) (p + length s) (put b p s)) ∙ ap (drop (length t)) drop-put ∙ drop-drop (length t) (p + length s) b
 
--- ---- element by element
+-- ---- a part overwritten
+-- a part that has become s is s written from its start on
+pub written_part : {A : Type 0} (b : List A) (p : ℕ) (s x : List A) → x ≡ s → Written b p s (p + length s) (put_mid p (p + length s - p) b x)
+unfolding put
+written_part b p s x e = record { place = refl; became = rw (e, drop-drop (p + length s - p) p b, there) }
+  where
+    there : p + (p + length s - p) ≡ p + length s
+    there = omega arith
+
+-- ---- nothing written
 pub put-nothing : {A : Type 0} (b : List A) (p : ℕ) → b ≡ put b p []
 unfolding put
 put-nothing b p =
     let e : p + 0 ≡ p = omega arith in
     sym (ap (λ (n : ℕ). take p b ++ drop n b) e ∙ take-append-drop p b)
-
-module _ {A : Type 0} (d : A) (b : List A) (p : ℕ) (s : List A) (i : ℕ) (room : p + length s ≤ length b) (inside : i < length s) where
-  before : length (take i s) ≡ i
-  before = length-take-le i s (omega arith)
-
-  pub put_next : set (put b p (take i s)) (p + i) (get_or s i d) ≡ put b p (take (i + 1) s)
-  put_next =
-      put_one (put b p (take i s)) (p + i) (get_or s i d) (omega (arith, length-put b p (take i s) (omega (arith, before)), before))
-      ∙ ap (λ (n : ℕ). put (put b p (take i s)) (p + n) (get_or s i d ∷ [])) (sym before)
-      ∙ put-put b p (take i s) (omega (arith, before)) (get_or s i d ∷ [])
-      ∙ ap (put b p) (rw (add-one i) (sym (take-suc s i d inside)))
 
 -- ---- writers one after another
 -- a shorter list fits where a longer one does

@@ -7,48 +7,48 @@ use native.Mathlib.Omega.{arith}
 use borrow.Author.Tests.{lt-ltb, le-ltb, ltb-true, ltb-false}
 use lib.Dec.{ltb}
 use lib.ListN.{length}
-use Rattle.refusals.specs.Order as No
-use Rattle.lent.specs.declared.Wrote.{Wrote}
-use Rattle.lent.specs.declared.Wrote.TheVariants as W
+use Rattle.std.specs.Prelude.{Result, Ok, Err}
+use Rattle.refusals.specs.declared.Refusal.{Refusal}
+use Rattle.refusals.specs.declared.Refusal.TheVariants as No
 use Rattle.lent.specs.Lent.{put, Written, wrote, after, LentWritten}
 use Rattle.lent.proofs.PutLaws.{put-nothing}
 
 -- ---- what is promised
-pub refuses : {A : Type 0} (b s : List A) → length b < length s → LentWritten b s (W.Refused No.too_long) b
+pub refuses : {A : Type 0} (b s : List A) → length b < length s → LentWritten b s (Err No.TooLong) b
 unfolding wrote after
 refuses b s h = record { answer = rw (lt-ltb (length b) (length s) h); became = rw (lt-ltb (length b) (length s) h) }
 
-pub writes : {A : Type 0} {b s : List A} {r : ℕ} {b₁ : List A} → length s ≤ length b → Written b 0 s r b₁ → LentWritten b s (W.To r) b₁
+pub writes : {A : Type 0} {b s : List A} {r : ℕ} {b₁ : List A} → length s ≤ length b → Written b 0 s r b₁ → LentWritten b s (Ok r) b₁
 unfolding wrote after
 writes {b} {s} {r} h w =
     record {
-      answer = rw (le-ltb (length b) (length s) h) (ap W.To (omega (arith, w.place)));
+      answer = rw (le-ltb (length b) (length s) h) (ap Ok (omega (arith, w.place)));
       became = rw (le-ltb (length b) (length s) h) w.became;
     }
 
 -- of nothing
-pub nothing_written : {A : Type 0} (b : List A) → LentWritten b [] (W.To 0) b
+pub nothing_written : {A : Type 0} (b : List A) → LentWritten b [] (Ok 0) b
 nothing_written b = writes (omega arith) (record { place = refl; became = put-nothing b 0 })
 
 -- one answer and one state of what is lent
-pub lent_written_one : {A : Type 0} {b s : List A} {q r : Wrote} {b₁ b₂ : List A} → LentWritten b s q b₁ → LentWritten b s r b₂ → (q ≡ r) × (b₁ ≡ b₂)
+pub lent_written_one : {A : Type 0} {b s : List A} {q r : Result ℕ Refusal} {b₁ b₂ : List A} → LentWritten b s q b₁ → LentWritten b s r b₂ → (q ≡ r) × (b₁ ≡ b₂)
 lent_written_one v w = (v.answer ∙ sym w.answer, v.became ∙ sym w.became)
 
 -- ---- what the answer says of the room
 module _ {A : Type 0} (n : ℕ) (s : List A) where
-  pub to_fits : (k : ℕ) → W.To k ≡ wrote n s → (length s ≤ n) × (k ≡ length s)
+  pub to_fits : (k : ℕ) → Ok k ≡ wrote n s → (length s ≤ n) × (k ≡ length s)
   unfolding wrote
   to_fits k e = go (ltb n (length s)) refl e
     where
-      go : (t : Bool) → ltb n (length s) ≡ t → W.To k ≡ cond t (W.Refused No.too_long) (W.To (length s)) → (length s ≤ n) × (k ≡ length s)
+      go : (t : Bool) → ltb n (length s) ≡ t → Ok k ≡ cond t (Err No.TooLong) (Ok (length s)) → (length s ≤ n) × (k ≡ length s)
       go true h g = let z : ◌≡◌ {A = ℕ} 0 1 = cc in absurd (omega arith)
       go false h g = (ltb-false n (length s) h, cc)
 
-  pub refused_full : (k : ℕ) → W.Refused k ≡ wrote n s → n < length s
+  pub refused_full : (k : Refusal) → Err k ≡ wrote n s → n < length s
   unfolding wrote
   refused_full k e = go (ltb n (length s)) refl e
     where
-      go : (t : Bool) → ltb n (length s) ≡ t → W.Refused k ≡ cond t (W.Refused No.too_long) (W.To (length s)) → n < length s
+      go : (t : Bool) → ltb n (length s) ≡ t → Err k ≡ cond t (Err No.TooLong) (Ok (length s)) → n < length s
       go true h g = ltb-true n (length s) h
       go false h g = let z : ◌≡◌ {A = ℕ} 0 1 = cc in absurd (omega arith)
 

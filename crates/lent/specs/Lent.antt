@@ -1,8 +1,7 @@
 -- Lent memory, bytes or numbers, once something is written into it, and what a writer answers. Definitions only.
-use Rattle.std.specs.Prelude.{ℕ, ◌+◌, ◌≡◌, cond, List, ◌++◌, ltb, length, take, drop}
-use Rattle.refusals.specs.Order as No
-use Rattle.lent.specs.declared.Wrote.{Wrote}
-use Rattle.lent.specs.declared.Wrote.TheVariants as W
+use Rattle.std.specs.Prelude.{ℕ, ◌+◌, ◌≡◌, cond, List, ◌++◌, ltb, length, take, drop, Result, Ok, Err}
+use Rattle.refusals.specs.declared.Refusal.{Refusal}
+use Rattle.refusals.specs.declared.Refusal.TheVariants as No
 
 -- ---- from a place on
 -- b with s written over it from place p on
@@ -15,20 +14,15 @@ pub record Written {A : Type 0} (b : List A) (p : ℕ) (s : List A) (r : ℕ) (b
   pub became : b₁ ≡ put b p s
 
 -- ---- what a writer answers
--- the refusal's number, 0 for none
-abbrev pub number_of : Wrote → ℕ
-number_of (W.To n) = 0
-number_of (W.Refused n) = n
-
 -- how much was written: nothing on a refusal
-abbrev pub count_of : Wrote → ℕ
-count_of (W.To n) = n
-count_of (W.Refused n) = 0
+abbrev pub count_of : Result ℕ Refusal → ℕ
+count_of (Ok n) = n
+count_of (Err n) = 0
 
 -- ---- from the start
 -- the answer of a writer of s that is lent n places: refused if s is longer
-unfoldable pub wrote : {A : Type 0} → ℕ → List A → Wrote
-wrote n s = cond (ltb n (length s)) (W.Refused No.too_long) (W.To (length s))
+unfoldable pub wrote : {A : Type 0} → ℕ → List A → Result ℕ Refusal
+wrote n s = cond (ltb n (length s)) (Err No.TooLong) (Ok (length s))
 
 -- what is lent, b, afterwards: as it was if s is longer, else s and behind it what was there
 unfoldable pub after : {A : Type 0} → List A → List A → List A
@@ -36,6 +30,6 @@ unfolding put
 after b s = cond (ltb (length b) (length s)) b (put b 0 s)
 
 -- what a writer of s into b promises: the answer r, and what b became
-pub record LentWritten {A : Type 0} (b s : List A) (r : Wrote) (b₁ : List A) : Type 0 where
+pub record LentWritten {A : Type 0} (b s : List A) (r : Result ℕ Refusal) (b₁ : List A) : Type 0 where
   pub answer : r ≡ wrote (length b) s
   pub became : b₁ ≡ after b s

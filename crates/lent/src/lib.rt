@@ -1,29 +1,28 @@
-// Memory that a caller lends: bytes and numbers written into it from a place on, and what a writer
-// answers.
+// Memory that a caller lends: bytes and numbers written into it from a place on. Each function returns the
+// place after what it wrote, and leaves every other element as it was. What is lent and the place in it are two
+// parameters: a struct of the two would be no plainer, since each promise speaks of both before and after.
 #![tactic(auto)]
 
-mod bytes;
-mod numbers;
+ghost use Rattle.std.specs.Prelude.{[], ◌∷◌, ◌+◌, ◌≤◌, length};
+ghost use Rattle.lent.specs.Lent.{Written};
 
-ghost use Rattle.std.specs.Prelude.{◌≡◌};
-ghost use Rattle.lent.specs.Lent.{count_of};
-
-pub use bytes::{put_byte, put_text};
-pub use numbers::put_numbers;
-
-// What a writer answers: how much it wrote at the start of what was lent, or the refusal's number.
-#[derive(Drop)]
-pub enum Wrote {
-    To(usize),
-    Refused(u32),
+// One byte.
+#[tactic(auto, using(crate::proofs::PutLaws::put_one))]
+pub fn put_byte(b: &mut [u8], at: usize, v: u8) -> usize
+    requires { at + 1 ≤ length b.old }
+    ensures { Written b.old at (v ∷ []) result b.new }
+{
+    b[at] = v;
+    at + 1
 }
 
-// How much was written: nothing on a refusal.
-pub fn count_of(w: Wrote) -> usize
-    ensures { result ≡ count_of w }
+// Some bytes, or some numbers.
+#[tactic(auto, using(crate::proofs::PutLaws::written_part))]
+pub fn put_slice<T: Copy>(b: &mut [T], at: usize, s: &[T]) -> usize
+    requires { at + length s.now ≤ length b.old }
+    ensures { Written b.old at s.now result b.new }
 {
-    match w {
-        Wrote::To(n) => n,
-        Wrote::Refused(_) => 0,
-    }
+    let end = at + s.len();
+    b[at..end].copy_from_slice(s);
+    end
 }

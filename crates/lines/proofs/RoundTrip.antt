@@ -10,18 +10,18 @@ use lib.Seq.{take-append_seam, drop_at, take_at}
 use lib.Dec.{T}
 use lib.IntN.{ℤ, pos, negsuc, nat_abs}
 use lib.Signed.{le_z}
+use Rattle.std.specs.Prelude.{Result, Ok, Err, None, Some, unwrap_or}
+use Rattle.refusals.specs.declared.Refusal.{Refusal}
+use Rattle.refusals.specs.Order.{number_of}
 use Rattle.request.specs.declared.Field.{Field}
 use Rattle.request.specs.declared.Field.TheVariants.{Measured, Inferred, Estimated, Blank}
 use Rattle.request.specs.declared.Request.{Request}
 use Rattle.request.specs.Fields.{is_given, is_blank, value_of, size_of, within, allowed}
-use Rattle.outcome.specs.declared.Completion.{Completion}
-use Rattle.outcome.specs.declared.Completion.TheVariants as C
 use Rattle.outcome.specs.Figures.{or_estimate, dip, width, ztor, rrup, z25}
 use Rattle.outcome.specs.Refusals.{refusal}
 use Rattle.outcome.specs.Answers.{completed, completion_of}
 use Rattle.outcome.proofs.ExactlyWhen.{accepted-refusal}
 use Rattle.outcome.proofs.SentBackWhole.{silent, kept_path, site_rows_lem}
-use Rattle.lent.specs.declared.Wrote.TheVariants as W
 use Rattle.lent.specs.Lent.{put, LentWritten}
 use Rattle.lent.proofs.PutLaws.{read-put}
 use Rattle.lent.proofs.WroteLaws.{to_fits, after-fits}
@@ -29,7 +29,7 @@ use Rattle.numerals.specs.Render.{lf, space, ascii, render, ended}
 use Rattle.text.specs.Grammar.{space_at, digits_of}
 use Rattle.text.proofs.RoundTrip.{digits_back, space-past, number_no_space}
 use Rattle.lines.specs.Lines.{letter_of, spaced, letters, ok_line, no_line, completion_line}
-use Rattle.lines.specs.ReadBack.{figures, number, told, report_of, or_zero, number_in, behind, figure_in, figures_in, read_back}
+use Rattle.lines.specs.ReadBack.{figures, number, told, report_of, plain, number_in, behind, figure_in, figures_in, read_back}
 
 -- ---- a figure and what stands behind it
 module _ (f : Field) (s : List ℕ) where
@@ -42,7 +42,7 @@ module _ (f : Field) (s : List ℕ) where
   space-first = space-past (render (size_of f)) (space ∷ s) (number_no_space (size_of f)) ∙ omega arith
 
   pub number_first : number_in (spaced f ++ s) ≡ size_of f
-  unfolding number_in or_zero
+  unfolding number_in
   number_first =
       rw (open_spaced, space-first, take-append_seam (render (size_of f)) (space ∷ s), digits_back (size_of f))
 
@@ -103,17 +103,18 @@ ok_back c =
     ∙ five c.dip c.w c.ztor c.rrup c.z25 (letters c)
     ∙ rw (figure-back c.dip, figure-back c.w, figure-back c.ztor, figure-back c.rrup, figure-back c.z25)
 
-no_back : (n : ℕ) → read_back (no_line n) ≡ number n
-unfolding read_back no_line ended or_zero
+no_back : (n : Refusal) → read_back (no_line n) ≡ number (number_of n)
+unfolding read_back no_line ended
 no_back n =
-    ap (λ (s : List ℕ). number (or_zero (digits_of 0 s)))
-    (take_at (render n) (lf ∷ []) (length (render n ++ (lf ∷ [])) - 1) (omega (arith, length-append (render n) (lf ∷ []))))
-    ∙ rw (digits_back n)
+    let digits = render (number_of n) in
+    ap (λ (s : List ℕ). number (plain s))
+    (take_at digits (lf ∷ []) (length (digits ++ (lf ∷ [])) - 1) (omega (arith, length-append digits (lf ∷ []))))
+    ∙ rw (digits_back (number_of n))
 
-pub line-back : (c : Completion) → read_back (completion_line c) ≡ report_of c
+pub line-back : (a : Result Request Refusal) → read_back (completion_line a) ≡ report_of a
 unfolding completion_line report_of
-line-back (C.Done c) = ok_back c
-line-back (C.Refused n) = no_back n
+line-back (Ok c) = ok_back c
+line-back (Err n) = no_back n
 
 -- ---- of an accepted request, whose figures are not negative, the line tells the figures themselves
 told_number : (v : ℤ) (a : ℕ) → le_z (pos a) v ≡ true → pos (nat_abs v) ≡ v
@@ -131,7 +132,7 @@ told-figure (Inferred v) e a b h = ap Inferred (told_number v a (first-half (le_
 told-figure (Estimated v) e a b h = absurd (subst T h tt)
 told-figure Blank e a b h = refl
 
-module _ (r : Request) (accepted : refusal r ≡ 0) where
+module _ (r : Request) (accepted : refusal r ≡ None) where
   told-dip : told (dip r) ≡ dip r
   unfolding dip
   told-dip = told-figure r.dip _ 15 90 (silent r accepted).dip
@@ -157,22 +158,22 @@ five-alike :
 five-alike p q s t u = rw (p, q, s, t, u)
 
 pub accepted-told :
-    (r : Request) → completion_of r ≡ C.Done (completed r)
+    (r : Request) → completion_of r ≡ Ok (completed r)
     → read_back (completion_line (completion_of r)) ≡ figures (dip r) (width r) (ztor r) (rrup r) (z25 r)
 unfolding report_of completed
 accepted-told r e =
     let h = accepted-refusal r e in
-    ap (λ (c : Completion). read_back (completion_line c)) e
-    ∙ line-back (C.Done (completed r))
+    ap (λ (a : Result Request Refusal). read_back (completion_line a)) e
+    ∙ line-back (Ok (completed r))
     ∙ five-alike (told-dip r h) (told-width r h) (told-ztor r h) (told-rrup r h) (told-z25 r h)
 
 -- what a writer left in the lent bytes, read back from them
 pub written_back :
-    (c : Completion) {b b₁ : List ℕ} (n : ℕ) → LentWritten b (completion_line c) (W.To n) b₁ → read_back (take n b₁) ≡ report_of c
-written_back c {b} {b₁} n w =
-    let s = completion_line c in
+    (a : Result Request Refusal) {b b₁ : List ℕ} (n : ℕ) → LentWritten b (completion_line a) (Ok n) b₁ → read_back (take n b₁) ≡ report_of a
+written_back a {b} {b₁} n w =
+    let s = completion_line a in
     let f = to_fits (length b) s n w.answer in
     ap (λ (l : List ℕ). read_back (take n l)) (w.became ∙ after-fits b s f.0)
     ∙ ap (λ (k : ℕ). read_back (take k (put b 0 s))) f.1
     ∙ ap read_back (read-put b 0 s (omega (arith, f.0)))
-    ∙ line-back c
+    ∙ line-back a

@@ -1,12 +1,12 @@
 -- The answer lines of the completing program, as document 01 prints them under "Examples": the bytes of a line, its LF among them; and the
 -- line of a refusal, which both programs print. Definitions only.
-use Rattle.std.specs.Prelude.{ℕ, List, [], ◌∷◌, ◌++◌}
+use Rattle.std.specs.Prelude.{ℕ, List, [], ◌∷◌, ◌++◌, Result, Ok, Err}
+use Rattle.refusals.specs.declared.Refusal.{Refusal}
+use Rattle.refusals.specs.Order.{number_of}
 use Rattle.request.specs.declared.Field.{Field}
 use Rattle.request.specs.declared.Field.TheVariants.{Measured, Inferred, Estimated, Blank}
 use Rattle.request.specs.declared.Request.{Request}
 use Rattle.request.specs.Fields.{size_of}
-use Rattle.outcome.specs.declared.Completion.{Completion}
-use Rattle.outcome.specs.declared.Completion.TheVariants as C
 use Rattle.numerals.specs.Render.{lf, space, minus, ascii, ended}
 
 -- ---- the letters
@@ -35,6 +35,10 @@ unfoldable pub spaced : Field → List ℕ
 unfolding size_of ended
 spaced f = ended (size_of f) space
 
+-- the five columns
+abbrev pub columns : Request → List Field
+columns c = c.dip ∷ c.w ∷ c.ztor ∷ c.rrup ∷ c.z25 ∷ []
+
 -- the letters of the five columns, and the LF
 unfoldable pub letters : Request → List ℕ
 unfolding letter_of
@@ -46,11 +50,11 @@ unfolding ascii spaced letters
 ok_line c = ascii "ok " ++ spaced c.dip ++ spaced c.w ++ spaced c.ztor ++ spaced c.rrup ++ spaced c.z25 ++ letters c
 
 -- "no" and the refusal's number
-unfoldable pub no_line : ℕ → List ℕ
+unfoldable pub no_line : Refusal → List ℕ
 unfolding ascii ended
-no_line n = ascii "no " ++ ended n lf
+no_line n = ascii "no " ++ ended (number_of n) lf
 
-unfoldable pub completion_line : Completion → List ℕ
+unfoldable pub completion_line : Result Request Refusal → List ℕ
 unfolding ok_line no_line
-completion_line (C.Done c) = ok_line c
-completion_line (C.Refused n) = no_line n
+completion_line (Ok c) = ok_line c
+completion_line (Err n) = no_line n

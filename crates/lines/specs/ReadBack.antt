@@ -1,12 +1,11 @@
 -- An answer line read back: the five figures with their letters, or the refusal's number. Definitions only.
-use Rattle.std.specs.Prelude.{ℕ, ◌+◌, ◌-◌, cond, List, eqb, length, get_or, take, drop, pos}
+use Rattle.std.specs.Prelude.{ℕ, ◌+◌, ◌-◌, cond, List, eqb, length, get_or, take, drop, pos, unwrap_or, Result, Ok, Err}
+use Rattle.refusals.specs.declared.Refusal.{Refusal}
+use Rattle.refusals.specs.Order.{number_of}
 use Rattle.request.specs.declared.Field.{Field}
 use Rattle.request.specs.declared.Field.TheVariants.{Measured, Inferred, Estimated, Blank}
+use Rattle.request.specs.declared.Request.{Request}
 use Rattle.request.specs.Fields.{size_of}
-use Rattle.outcome.specs.declared.Completion.{Completion}
-use Rattle.outcome.specs.declared.Completion.TheVariants as C
-use Rattle.text.specs.declared.figures.Number.{Number}
-use Rattle.text.specs.declared.figures.Number.TheVariants as N
 use Rattle.text.specs.Grammar.{space_at, digits_of}
 use Rattle.lines.specs.Lines.{letter_m, letter_i, letter_e}
 
@@ -24,20 +23,19 @@ told (Estimated v) = Estimated (pos (size_of (Estimated v)))
 told Blank = Blank
 
 -- what an answer says that a line tells
-unfoldable pub report_of : Completion → Report
+unfoldable pub report_of : Result Request Refusal → Report
 unfolding told
-report_of (C.Done c) = figures (told c.dip) (told c.w) (told c.ztor) (told c.rrup) (told c.z25)
-report_of (C.Refused n) = number n
+report_of (Ok c) = figures (told c.dip) (told c.w) (told c.ztor) (told c.rrup) (told c.z25)
+report_of (Err n) = number (number_of n)
 
 -- the number that digits stand for, 0 where a byte is no digit
-unfoldable pub or_zero : Number → ℕ
-or_zero (N.Is n) = n
-or_zero N.Malformed = 0
+abbrev pub plain : List ℕ → ℕ
+plain s = unwrap_or (digits_of 0 s) 0
 
 -- the number before the first space
 unfoldable pub number_in : List ℕ → ℕ
-unfolding digits_of space_at or_zero
-number_in s = or_zero (digits_of 0 (take (space_at s) s))
+unfolding space_at
+number_in s = plain (take (space_at s) s)
 
 -- what stands behind the first space
 unfoldable pub behind : List ℕ → List ℕ
@@ -70,6 +68,6 @@ figures_in s =
 
 -- a line, its LF among its bytes: "o" begins "ok", and any other byte "no"
 unfoldable pub read_back : List ℕ → Report
-unfolding figures_in behind digits_of or_zero
+unfolding figures_in behind
 read_back s =
-    cond (eqb (get_or s 0 0) 111) (figures_in (behind s)) (number (or_zero (digits_of 0 (take (length (behind s) - 1) (behind s)))))
+    cond (eqb (get_or s 0 0) 111) (figures_in (behind s)) (number (plain (take (length (behind s) - 1) (behind s))))

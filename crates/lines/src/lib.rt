@@ -6,17 +6,18 @@ mod write;
 ghost use Rattle.lent.specs.Lent.{LentWritten};
 ghost use Rattle.lines.specs.Lines.{completion_line};
 
-use lent::Wrote;
-use outcome::Completion;
-pub use write::write_no;
+use refusals::Refusal;
+use request::Request;
 use write::write_ok;
+pub use write::{room, write_no};
 
-// The line of an answer. Its only refusal is TOO_LONG, and then no byte of `out` has changed.
-pub fn write_completion(out: &mut [u8], c: Completion) -> Wrote
-    ensures { LentWritten out.old (completion_line c) result out.new }
+// The line of an answer. Its only refusal is TooLong, and then no byte of `out` has changed.
+#[tactic(auto, unfolding(crate::specs::Lines::completion_line))]
+pub fn write_completion(out: &mut [u8], answer: Result<Request, Refusal>) -> Result<usize, Refusal>
+    ensures { LentWritten out.old (completion_line answer) result out.new }
 {
-    match c {
-        Completion::Done(f) => write_ok(out, f),
-        Completion::Refused(n) => write_no(out, n),
+    match answer {
+        Ok(c) => write_ok(out, c),
+        Err(refusal) => write_no(out, refusal),
     }
 }

@@ -1,17 +1,34 @@
 // An answer as a line of text, written into lent bytes: counted first, so that a line too long for
 // them changes none.
-ghost use Rattle.std.specs.Prelude.{◌≡◌, ◌+◌, ◌≤◌, length};
+ghost use Rattle.std.specs.Prelude.{◌≡◌, ◌+◌, ◌<◌, ◌≤◌, length, Result, MatchResult};
+ghost use Rattle.refusals.specs.declared.Refusal.TheVariants as No;
 ghost use Rattle.lent.specs.Lent.{Written, LentWritten};
-ghost use Rattle.numerals.specs.Render.{render};
-ghost use Rattle.request.specs.Fields.{size_of};
-ghost use Rattle.lines.specs.Lines.{letter_of, letters, spaced, ok_line, no_line};
+ghost use Rattle.lines.specs.Lines.{letter_of, columns, letters, spaced, ok_line, no_line};
 
-use lent::{Wrote, put_text};
+use lent::{put_byte, put_slice};
 use numerals::{digits, put_ended};
-use refusals::TOO_LONG;
-use request::{Field, Request, size_of};
+use refusals::Refusal;
+use request::{Field, Request};
+
+// Whether what is lent has room for what is wanted; else TooLong.
+pub fn room(lent: usize, wanted: usize) -> Result<(), Refusal>
+    ensures { MatchResult result (λ _. wanted ≤ lent) (λ refusal. (refusal ≡ No.TooLong) × (lent < wanted)) }
+{
+    if lent < wanted {
+        return Err(Refusal::TooLong);
+    }
+    Ok(())
+}
+
+// The five figures that a line shows.
+fn columns(c: Request) -> [Field; 5]
+    ensures { result ≡ columns c }
+{
+    [c.dip, c.w, c.ztor, c.rrup, c.z25]
+}
 
 // The letter of a figure's origin.
+#[tactic(auto, unfolding(crate::specs::Lines::letter_of))]
 fn letter_of(f: Field) -> u8
     ensures { result ≡ letter_of f }
 {
@@ -24,32 +41,23 @@ fn letter_of(f: Field) -> u8
 }
 
 // A figure and the space after it.
+#[tactic(auto, unfolding(crate::specs::Lines::spaced))]
 fn put_figure(out: &mut [u8], at: usize, f: Field) -> usize
     requires { at + length (spaced f) ≤ length out.old }
     ensures { Written out.old at (spaced f) result out.new }
 {
-    put_ended(out, at, size_of(f), b' ')
+    put_ended(out, at, f.size(), b' ')
 }
 
 // The five letters and the LF.
-fn put_letters(out: &mut [u8], at: usize, c: Request) -> usize
+fn put_letters(out: &mut [u8], mut at: usize, c: Request) -> usize
     requires { at + length (letters c) ≤ length out.old }
     ensures { Written out.old at (letters c) result out.new }
 {
-    let dip = c.dip;
-    let w = c.w;
-    let ztor = c.ztor;
-    let rrup = c.rrup;
-    let z25 = c.z25;
-    let s = [
-        letter_of(dip),
-        letter_of(w),
-        letter_of(ztor),
-        letter_of(rrup),
-        letter_of(z25),
-        b'\n',
-    ];
-    put_text(out, at, &s)
+    for f in columns(c) {
+        at = put_byte(out, at, letter_of(f));
+    }
+    put_byte(out, at, b'\n')
 }
 
 // The line of a completed request, for which there is room.
@@ -57,69 +65,45 @@ fn put_ok(out: &mut [u8], c: Request) -> usize
     requires { length (ok_line c) ≤ length out.old }
     ensures { Written out.old 0 (ok_line c) result out.new }
 {
-    let dip = c.dip;
-    let w = c.w;
-    let ztor = c.ztor;
-    let rrup = c.rrup;
-    let z25 = c.z25;
-    let p0 = put_text(out, 0, b"ok ");
-    let p1 = put_figure(out, p0, dip);
-    let p2 = put_figure(out, p1, w);
-    let p3 = put_figure(out, p2, ztor);
-    let p4 = put_figure(out, p3, rrup);
-    let p5 = put_figure(out, p4, z25);
-    put_letters(out, p5, c)
+    let mut at = put_slice(out, 0, b"ok ");
+    for f in columns(c) {
+        at = put_figure(out, at, f);
+    }
+    put_letters(out, at, c)
 }
 
-// The line of a refusal, for which there is room.
-fn put_no(out: &mut [u8], n: u32) -> usize
-    requires { length (no_line n) ≤ length out.old }
-    ensures { Written out.old 0 (no_line n) result out.new }
-{
-    let p0 = put_text(out, 0, b"no ");
-    put_ended(out, p0, n as u64, b'\n')
-}
-
-// How many digits a figure has.
-fn figure_digits(f: Field) -> usize
-    ensures { (result ≡ length (render (size_of f))) × (result ≤ 20) }
-{
-    digits(size_of(f))
-}
-
-// How many bytes a completed request's line has: 14 beside its digits.
+// How many bytes a completed request's line has: 9 beside its figures and the space after each.
 fn ok_length(c: Request) -> usize
     ensures { result ≡ length (ok_line c) }
 {
-    let dip = c.dip;
-    let w = c.w;
-    let ztor = c.ztor;
-    let rrup = c.rrup;
-    let z25 = c.z25;
-    figure_digits(dip)
-        + figure_digits(w)
-        + figure_digits(ztor)
-        + figure_digits(rrup)
-        + figure_digits(z25)
-        + 14
+    let mut n = 9;
+    for f in columns(c) {
+        n += digits(f.size()) + 1;
+    }
+    n
 }
 
-// The line of a completed request, or TOO_LONG.
-pub fn write_ok(out: &mut [u8], c: Request) -> Wrote
+// The line of a completed request, or TooLong.
+pub fn write_ok(out: &mut [u8], c: Request) -> Result<usize, Refusal>
     ensures { LentWritten out.old (ok_line c) result out.new }
 {
-    if out.len() < ok_length(c) {
-        return Wrote::Refused(TOO_LONG);
-    }
-    Wrote::To(put_ok(out, c))
+    room(out.len(), ok_length(c))?;
+    Ok(put_ok(out, c))
 }
 
-// The line of a refusal, or TOO_LONG.
-pub fn write_no(out: &mut [u8], n: u32) -> Wrote
-    ensures { LentWritten out.old (no_line n) result out.new }
+// The line of a refusal, for which there is room.
+fn put_no(out: &mut [u8], refusal: Refusal) -> usize
+    requires { length (no_line refusal) ≤ length out.old }
+    ensures { Written out.old 0 (no_line refusal) result out.new }
 {
-    if out.len() < digits(n as u64) + 4 {
-        return Wrote::Refused(TOO_LONG);
-    }
-    Wrote::To(put_no(out, n))
+    let at = put_slice(out, 0, b"no ");
+    put_ended(out, at, u32::from(refusal) as u64, b'\n')
+}
+
+// The line of a refusal, or TooLong.
+pub fn write_no(out: &mut [u8], refusal: Refusal) -> Result<usize, Refusal>
+    ensures { LentWritten out.old (no_line refusal) result out.new }
+{
+    room(out.len(), digits(u32::from(refusal) as u64) + 4)?;
+    Ok(put_no(out, refusal))
 }

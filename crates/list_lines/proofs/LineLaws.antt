@@ -8,12 +8,12 @@ use borrow.Author.Tests.{ne_eqb, eqb-true, eqb-false}
 use lib.Dec.{eqb}
 use lib.ListN.{length, take, drop, length-drop, length-append, drop_of_length-le}
 use lib.Seq.{drop-drop}
+use Rattle.std.specs.Prelude.{Option, None}
 use Rattle.std.specs.Bool.{◌==◌}
 use Rattle.std.specs.List.{position_or_len}
 use Rattle.cuts.specs.Cuts.{up_to}
+use Rattle.request.specs.declared.Request.{Request}
 use Rattle.numerals.specs.Render.{lf}
-use Rattle.text.specs.declared.read.Line.{Line}
-use Rattle.text.specs.declared.read.Line.TheVariants as L
 use Rattle.text.specs.Grammar.{line_of}
 use Rattle.list_lines.specs.ListLines.{lines_from, lines_of}
 
@@ -39,19 +39,19 @@ first-line line (c ∷ cs) h = go (eqb c lf) (first-line (line ++ (c ∷ [])) cs
         ih (omega arith) ∙ rw (e, append_assoc line (c ∷ []) (take (lf_place cs) cs))
 
 -- without one there is a line without its LF
-last_line : (line s : List ℕ) → lf_place s ≡ length s → 0 < length line + length s → lines_from line s ≡ L.Malformed ∷ []
+last_line : (line s : List ℕ) → lf_place s ≡ length s → 0 < length line + length s → lines_from line s ≡ None ∷ []
 unfolding lines_from
 last_line line [] h k = rw (ne_eqb (length line) 0 (λ e. omega arith))
 last_line line (c ∷ cs) h k = go (eqb c lf) (λ e. last_line (line ++ (c ∷ [])) cs e (omega (arith, length-append line (c ∷ [])))) h
   where
-    go : (t : Bool) → (lf_place cs ≡ length cs → lines_from (line ++ (c ∷ [])) cs ≡ L.Malformed ∷ []) → cond (not t) (1 + lf_place cs) 0 ≡ suc (length cs)
-        → cond t (line_of line ∷ lines_from [] cs) (lines_from (line ++ (c ∷ [])) cs) ≡ L.Malformed ∷ []
+    go : (t : Bool) → (lf_place cs ≡ length cs → lines_from (line ++ (c ∷ [])) cs ≡ None ∷ []) → cond (not t) (1 + lf_place cs) 0 ≡ suc (length cs)
+        → cond t (line_of line ∷ lines_from [] cs) (lines_from (line ++ (c ∷ [])) cs) ≡ None ∷ []
     go true ih g = absurd (omega arith)
     go false ih g = ih (omega arith)
 
 -- the line at a place of a list, e the place of the first LF from there on, or the length
 module _ (s : List ℕ) (at e : ℕ) (is : e ≡ at + lf_place (drop at s)) (inside : at < length s) where
-  pub unfinished : e ≡ length s → lines_of (drop at s) ≡ L.Malformed ∷ []
+  pub unfinished : e ≡ length s → lines_of (drop at s) ≡ None ∷ []
   unfinished h = last_line [] (drop at s) (omega (arith, is, length-drop at s)) (omega (arith, length-drop at s))
 
   pub line-here : (e ≡ length s → ⊥) → e ≤ length s → lines_of (drop at s) ≡ line_of (take (e - at) (drop at s)) ∷ lines_of (drop (e + 1) s)
@@ -81,7 +81,7 @@ lines-append line (c ∷ cs) b h k =
         → (up_to lf cs ≡ length cs → (length cs ≡ 0 → length (line ++ (c ∷ [])) ≡ 0) → lines_from (line ++ (c ∷ [])) (cs ++ b) ≡ lines_from (line ++ (c ∷ [])) cs ++ lines_of b)
         → cond t (line_of line ∷ lines_from [] (cs ++ b)) (lines_from (line ++ (c ∷ [])) (cs ++ b))
         ≡ cond t (line_of line ∷ lines_from [] cs) (lines_from (line ++ (c ∷ [])) cs) ++ lines_of b
-    go true f true e g ih₁ ih₂ = ap (λ (l : List Line). line_of line ∷ l) (ih₁ (omega (arith, eqb-true (up_to lf cs) 0 e)))
-    go true f false e g ih₁ ih₂ = ap (λ (l : List Line). line_of line ∷ l) (ih₁ (omega arith))
+    go true f true e g ih₁ ih₂ = ap (λ (l : List (Option Request)). line_of line ∷ l) (ih₁ (omega (arith, eqb-true (up_to lf cs) 0 e)))
+    go true f false e g ih₁ ih₂ = ap (λ (l : List (Option Request)). line_of line ∷ l) (ih₁ (omega arith))
     go false f true e g ih₁ ih₂ = absurd (omega arith)
     go false f false e g ih₁ ih₂ = ih₂ (omega arith) (λ z. absurd (omega (arith, eqb-false (up_to lf cs) 0 e)))

@@ -8,10 +8,9 @@ use native.Mathlib.Omega.{arith}
 use borrow.Author.Tests.{ne_eqb, eqb-true}
 use lib.Dec.{eqb}
 use lib.ListN.{length, length-append}
+use Rattle.std.specs.Prelude.{Option, Some, None}
 use Rattle.request.specs.declared.Request.{Request}
 use Rattle.numerals.specs.Render.{lf}
-use Rattle.text.specs.declared.read.Line.{Line}
-use Rattle.text.specs.declared.read.Line.TheVariants as L
 use Rattle.text.specs.Grammar.{line_of}
 use Rattle.fields.specs.Held.{writable}
 use Rattle.request_lines.specs.RequestText.{line_text, list_text}
@@ -25,9 +24,9 @@ all_writable [] = true
 all_writable (r ∷ rs) = writable r && all_writable rs
 
 -- the lines that are read as some requests
-unfoldable pub read : List Request → List Line
+unfoldable pub read : List Request → List (Option Request)
 read [] = []
-read (r ∷ rs) = L.Is r ∷ read rs
+read (r ∷ rs) = Some r ∷ read rs
 
 pub all_read_lem : (rs : List Request) → all_read (read rs) ≡ true
 unfolding all_read read
@@ -39,11 +38,11 @@ unfolding requests_in read
 requests-read [] = refl
 requests-read (r ∷ rs) = ap (λ (l : List Request). r ∷ l) (requests-read rs)
 
-pub as_many : (ls : List Line) → all_read ls ≡ true → length (requests_in ls) ≡ length ls
+pub as_many : (ls : List (Option Request)) → all_read ls ≡ true → length (requests_in ls) ≡ length ls
 unfolding all_read requests_in
 as_many [] e = refl
-as_many (L.Is r ∷ ls) e = omega (arith, as_many ls e)
-as_many (L.Malformed ∷ ls) e = let z : ◌≡◌ {A = ℕ} 0 1 = cc in absurd (omega arith)
+as_many (Some r ∷ ls) e = omega (arith, as_many ls e)
+as_many (None ∷ ls) e = let z : ◌≡◌ {A = ℕ} 0 1 = cc in absurd (omega arith)
 
 -- ---- from requests to text and back
 -- a text with no LF, and one behind it, is a line
@@ -67,16 +66,16 @@ lines_of_text (r ∷ rs) e =
 
 -- ---- from text to requests and back
 -- what is said of a list all of whose lines are well-formed
-abbrev Text : List ℕ → List Line → Type 0
+abbrev Text : List ℕ → List (Option Request) → Type 0
 Text s ls = all_read ls ≡ true → (all_writable (requests_in ls) ≡ true) × (list_text (requests_in ls) ≡ s)
 
-one_more : (line rest : List ℕ) (l : Line) (ls : List Line) → line_of line ≡ l → Text rest ls → Text (line ++ (lf ∷ rest)) (l ∷ ls)
+one_more : (line rest : List ℕ) (l : Option Request) (ls : List (Option Request)) → line_of line ≡ l → Text rest ls → Text (line ++ (lf ∷ rest)) (l ∷ ls)
 unfolding all_read requests_in all_writable list_text
-one_more line rest (L.Is r) ls e t h =
+one_more line rest (Some r) ls e t h =
     let u = line_is_text line r e in
     let v = t h in
     (rw u.0 v.0, rw (u.1, v.1))
-one_more line rest L.Malformed ls e t h = let z : ◌≡◌ {A = ℕ} 0 1 = cc in absurd (omega arith)
+one_more line rest None ls e t h = let z : ◌≡◌ {A = ℕ} 0 1 = cc in absurd (omega arith)
 
 text_from : (line s : List ℕ) → Text (line ++ s) (lines_from line s)
 unfolding lines_from all_read requests_in all_writable list_text

@@ -7,31 +7,23 @@ ghost use Rattle.std.specs.Prelude.{◌≡◌, length};
 ghost use Rattle.list_lines.specs.ListLines.{lines_of, surveyed};
 
 pub use ends::line_end;
-use text::{Line, read_line};
-
-// What a list is found to be: well-formed, with a number that tells of it, or malformed.
-#[derive(Drop)]
-pub enum Survey {
-    Are(usize),
-    Malformed,
-}
+use text::read_line;
 
 // How many lines a list has, if all are well-formed. Any bytes, of any length.
-pub fn survey_lines(s: &[u8]) -> Survey
+pub fn survey_lines(s: &[u8]) -> Option<usize>
     ensures { result ≡ surveyed (lines_of s.now) (length (lines_of s.now)) }
 {
-    let mut n = 0usize;
-    let mut at = 0usize;
+    let mut n = 0;
+    let mut at = 0;
+    // By places: what `line_end` says of them may not change, and the same call finds them in `put_records`.
     while at < s.len() {
         let e = line_end(s, at);
         if e == s.len() {
-            return Survey::Malformed;
+            return None;
         }
-        let Line::Is(_) = read_line(&s[at..e]) else {
-            return Survey::Malformed;
-        };
+        read_line(&s[at..e])?;
         n += 1;
         at = e + 1;
     }
-    Survey::Are(n)
+    Some(n)
 }

@@ -1,13 +1,17 @@
 -- The reader byte by byte: what holds from turn to turn of the loop over a part, and what each turn does to it. Assumes nothing.
 use Prim.Native.Nat.{ℕ, ◌+◌, ◌-◌, ◌≤◌, ◌<◌}
 use mathlib.Core.Path.{◌≡◌, refl, sym, ap, subst, ◌∙◌}
+use mathlib.Core.Bool.{Bool, true, false}
 use mathlib.Core.List.{List, [], ◌++◌}
 use native.Mathlib.Omega.{arith}
 use native.Mathlib.Numerals.{add-one}
-use borrow.Author.Tests.{eq-eqb, ne_eqb, lt-ltb, le-ltb}
+use borrow.Author.Tests.{eq-eqb, ne_eqb, lt-ltb, le-ltb, ltb-true, ltb-false}
+use lib.Dec.{ltb}
 use lib.ListN.{length, get_or, take, drop, set, length-append, length-drop, length-set, drop_of_length-le}
 use lib.Seq.{drop-cons, drop-drop, length-take-le}
-use Rattle.lent.specs.declared.Wrote.TheVariants as W
+use Rattle.std.specs.Prelude.{Result, Ok, Err}
+use Rattle.refusals.specs.declared.Refusal.{Refusal}
+use Rattle.refusals.specs.declared.Refusal.TheVariants as No
 use Rattle.lent.specs.Lent.{put, LentWritten}
 use Rattle.lent.proofs.PutLaws.{take_put, drop-put, length-put}
 use Rattle.lent.proofs.WroteLaws.{to_fits, refused_full, after-fits, after-full}
@@ -18,7 +22,8 @@ use Rattle.answer.specs.declared.Sheet.{Sheet}
 use Rattle.answer.specs.Sheets.{answer_to}
 use Rattle.lists.specs.declared.Reader.{Reader}
 use Rattle.lists.specs.declared.Taken.{Taken}
-use Rattle.lists.specs.Parts.{line_in, fresh, grown, Stand, read_from, stand_in, first_answer, no_room, PartTaken}
+use Rattle.lists.specs.Parts.{line_in, fresh, grown, Stand, read_from, stand_in, first_answer, Called, PartTaken}
+use Rattle.lists.proofs.HeldLaws.{refused_number}
 use Rattle.lists.proofs.StandLaws.{fits_or_not, first-full, first_fits, answer-full, answer-fits}
 
 -- ---- what the reader makes of a part from a place on, by the byte at that place
@@ -45,9 +50,9 @@ module _ (sheet : Sheet) (room : ℕ) (r : Reader) (text part : List ℕ) (i : �
     from_byte e = rw (drop-cons part i 0 inside, ne_eqb (get_or part i 0) lf e, add-one i)
 
 -- ---- the answer
-same_taken : {a b : Reader} {i j m n : ℕ} → a ≡ b → i ≡ j → m ≡ n
-    → ◌≡◌ {A = Taken} (record { refusal = 0; reader = a; took = i; wrote = m }) (record { refusal = 0; reader = b; took = j; wrote = n })
-same_taken p q e = cc
+same_taken : {i j m n : ℕ} → i ≡ j → m ≡ n
+    → ◌≡◌ {A = Result Taken Refusal} (Ok (record { took = i; wrote = m })) (Ok (record { took = j; wrote = n }))
+same_taken p e = cc
 
 module _ (sheet : Sheet) (room : ℕ) (r : Reader) (part : List ℕ) where
   -- the first answer fits, where bytes left say that some were written
@@ -72,6 +77,22 @@ grown-held r c h = rw (lt-ltb r.count longest h)
 pub grown_over : (r : Reader) (c : ℕ) → longest ≤ r.count → grown r c ≡ record { held = r.held; count = longest + 1 }
 unfolding grown
 grown_over r c h = rw (le-ltb r.count longest h)
+
+-- the array keeps its length, and the count fits its byte
+pub grown-length : (r : Reader) (c : ℕ) → length r.held ≡ longest → length (grown r c).held ≡ longest
+grown-length r c full = go (ltb r.count longest) refl
+  where
+    go : (t : Bool) → ltb r.count longest ≡ t → length (grown r c).held ≡ longest
+    go true e = ap (λ (q : Reader). length q.held) (grown-held r c (ltb-true r.count longest e)) ∙ length-set r.held r.count c ∙ full
+    go false e = ap (λ (q : Reader). length q.held) (grown_over r c (ltb-false r.count longest e)) ∙ full
+
+grown-counted : (r : Reader) (c : ℕ) → (grown r c).count ≤ 255
+grown-counted r c = go (ltb r.count longest) refl
+  where
+    go : (t : Bool) → ltb r.count longest ≡ t → (grown r c).count ≤ 255
+    go true e =
+        omega (arith, ap (λ (q : Reader). q.count) (grown-held r c (ltb-true r.count longest e)), ltb-true r.count longest e)
+    go false e = omega (arith, ap (λ (q : Reader). q.count) (grown_over r c (ltb-false r.count longest e)))
 
 -- ---- from turn to turn
 -- the rest of the part makes of the reader and the text so far what the whole part makes of the reader at its start
@@ -111,53 +132,43 @@ module _ {sheet : Sheet} {part out₀ : List ℕ} {r₀ r : Reader} {out : List 
     bytes_are = put_front out₀ out wrote g.written g.behind ∙ sym (ap (λ (p : Stand). put out₀ 0 p.text) stand_is)
 
     -- what is promised: bytes were written, or none is left
-    taken_to : i + length l ≡ length part → (0 < length l → 0 < wrote) → PartTaken sheet r₀ part out₀ (record { refusal = 0; reader = r; took = i; wrote = wrote }) out
+    taken_to : i + length l ≡ length part → (0 < length l → 0 < wrote) → PartTaken sheet r₀ part out₀ (Ok (record { took = i; wrote = wrote })) r out
     taken_to left some =
+        let fits = answer-fits sheet (length out₀) r₀ part (not_full sheet (length out₀) r₀ part (λ k. omega (arith, text_is, left_are, k, some (omega (arith, left_are, k))))) in
         record {
-          answer =
-              same_taken (sym (ap (λ (p : Stand). p.reader) stand_is)) (omega (arith, left_are)) (sym text_is)
-              ∙ sym (answer-fits sheet (length out₀) r₀ part (not_full sheet (length out₀) r₀ part (λ k. omega (arith, text_is, left_are, k, some (omega (arith, left_are, k))))));
+          answer = same_taken (omega (arith, left_are)) (sym text_is) ∙ sym (ap (λ (c : Called Taken). c.told) fits);
+          reader = sym (ap (λ (p : Stand). p.reader) stand_is) ∙ sym (ap (λ (c : Called Taken). c.reader) fits);
           bytes = bytes_are;
         }
 
     -- or none was, and some are left
-    refused-at : wrote ≡ 0 → 0 < length l → PartTaken sheet r₀ part out₀ (no_room r₀) out
+    refused-at : wrote ≡ 0 → 0 < length l → PartTaken sheet r₀ part out₀ (Err No.TooLong) r₀ out
     refused-at none some =
+        let full = answer-full sheet (length out₀) r₀ part (not_fits sheet (length out₀) r₀ part (omega (arith, left_are)) (omega (arith, text_is))) in
         record {
-          answer = sym (answer-full sheet (length out₀) r₀ part (not_fits sheet (length out₀) r₀ part (omega (arith, left_are)) (omega (arith, text_is))));
+          answer = sym (ap (λ (c : Called Taken). c.told) full);
+          reader = sym (ap (λ (c : Called Taken). c.reader) full);
           bytes = bytes_are;
         }
 
   -- at the end of the part
-  pub ends : length part ≤ i → PartTaken sheet r₀ part out₀ (record { refusal = 0; reader = r; took = i; wrote = wrote }) out
-  ends h = taken_to [] (from_end sheet (length out₀) r (take wrote out) part i h) (omega (arith, g.taken)) (λ k. absurd (omega arith))
+  pub ends : length part ≤ i → PartTaken sheet r₀ part out₀ (Ok (record { took = length part; wrote = wrote })) r out
+  ends h =
+      let all : length part ≡ i = omega (arith, g.taken) in
+      rw all (taken_to [] (from_end sheet (length out₀) r (take wrote out) part i h) (omega (arith, g.taken)) (λ k. absurd (omega arith)))
 
   module _ (inside : i < length part) where
     -- a byte of a line
-    pub byte_held : (get_or part i 0 ≡ lf → ⊥) → r.count < longest
-        → Going sheet part out₀ r₀ (record { held = set r.held r.count (get_or part i 0); count = r.count + 1 }) out wrote (i + 1)
-    byte_held e h =
+    pub byte_pushed : (get_or part i 0 ≡ lf → ⊥) → Going sheet part out₀ r₀ (grown r (get_or part i 0)) out wrote (i + 1)
+    byte_pushed e =
         record {
-          held-length = length-set r.held r.count (get_or part i 0) ∙ g.held-length;
-          counted = omega arith;
+          held-length = grown-length r (get_or part i 0) g.held-length;
+          counted = grown-counted r (get_or part i 0);
           taken = omega arith;
           written = g.written;
           out_length = g.out_length;
           behind = g.behind;
-          same = rw (← grown-held r (get_or part i 0) h) (sym (from_byte sheet (length out₀) r (take wrote out) part i inside e) ∙ g.same);
-        }
-
-    pub byte_over : (get_or part i 0 ≡ lf → ⊥) → longest ≤ r.count
-        → Going sheet part out₀ r₀ (record { held = r.held; count = longest + 1 }) out wrote (i + 1)
-    byte_over e h =
-        record {
-          held-length = g.held-length;
-          counted = omega arith;
-          taken = omega arith;
-          written = g.written;
-          out_length = g.out_length;
-          behind = g.behind;
-          same = rw (← grown_over r (get_or part i 0) h) (sym (from_byte sheet (length out₀) r (take wrote out) part i inside e) ∙ g.same);
+          same = sym (from_byte sheet (length out₀) r (take wrote out) part i inside e) ∙ g.same;
         }
 
     -- an LF
@@ -188,7 +199,7 @@ module _ {sheet : Sheet} {part out₀ : List ℕ} {r₀ r : Reader} {out : List 
       full h = from-full sheet (length out₀) r (take wrote out) part i inside e (omega (arith, both line, g.out_length))
 
       -- the answer is written into what is left of the lent bytes
-      pub line-answered : {x : List ℕ} (n : ℕ) → LentWritten (drop wrote out) line (W.To n) x
+      pub line-answered : {x : List ℕ} (n : ℕ) → LentWritten (drop wrote out) line (Ok n) x
           → Going sheet part out₀ r₀ (fresh r) (given_back out wrote x) (wrote + n) (i + 1)
       line-answered {x} n w =
           let f = to_fits (length (drop wrote out)) line n w.answer in
@@ -198,7 +209,7 @@ module _ {sheet : Sheet} {part out₀ : List ℕ} {r₀ r : Reader} {out : List 
           (line-put (omega (arith, f.0, left_over, g.written))))
 
       -- or it is too long for them, and they are as they were
-      module _ {x : List ℕ} (n : ℕ) (w : LentWritten (drop wrote out) line (W.Refused n) x) where
+      module _ {x : List ℕ} (n : Refusal) (w : LentWritten (drop wrote out) line (Err n) x) where
         too_long : length out < wrote + length line
         too_long = omega (arith, refused_full (length (drop wrote out)) line n w.answer, left_over, g.written)
 
@@ -208,13 +219,17 @@ module _ {sheet : Sheet} {part out₀ : List ℕ} {r₀ r : Reader} {out : List 
             ∙ back-same out wrote
 
         -- so that the call is refused where it is the first
-        pub line_refused : wrote ≡ 0 → PartTaken sheet r₀ part out₀ (no_room r₀) (given_back out wrote x)
-        line_refused k = rw same_bytes (refused-at (drop i part) (full too_long) k (omega (arith, length-drop i part)))
+        pub line_refused : wrote ≡ 0 → PartTaken sheet r₀ part out₀ (Err n) r₀ (given_back out wrote x)
+        line_refused k =
+            rw (same_bytes, refused_number (length (drop wrote out)) line n w.answer)
+            (refused-at (drop i part) (full too_long) k (omega (arith, length-drop i part)))
 
         -- and else stops before its LF
-        pub line-stops : 0 < wrote → PartTaken sheet r₀ part out₀ (record { refusal = 0; reader = r; took = i; wrote = wrote }) (given_back out wrote x)
+        pub line-stops : 0 < wrote → PartTaken sheet r₀ part out₀ (Ok (record { took = i; wrote = wrote })) r (given_back out wrote x)
         line-stops k = rw same_bytes (taken_to (drop i part) (full too_long) (omega (arith, length-drop i part)) (λ _. k))
 
 -- ---- one answer and one state of the bytes
-pub part_taken_one : {sheet : Sheet} {r : Reader} {part b : List ℕ} {t u : Taken} {b₁ b₂ : List ℕ} → PartTaken sheet r part b t b₁ → PartTaken sheet r part b u b₂ → (t ≡ u) × (b₁ ≡ b₂)
-part_taken_one v w = (v.answer ∙ sym w.answer, v.bytes ∙ sym w.bytes)
+pub part_taken_one :
+    {sheet : Sheet} {r : Reader} {part b : List ℕ} {t u : Result Taken Refusal} {q₁ q₂ : Reader} {b₁ b₂ : List ℕ}
+    → PartTaken sheet r part b t q₁ b₁ → PartTaken sheet r part b u q₂ b₂ → (t ≡ u) × (q₁ ≡ q₂) × (b₁ ≡ b₂)
+part_taken_one v w = (v.answer ∙ sym w.answer, v.reader ∙ sym w.reader, v.bytes ∙ sym w.bytes)

@@ -10,13 +10,14 @@ use borrow.Author.Tests.{lt-ltb, le-ltb, ltb-true, ltb-false}
 use lib.Dec.{ltb, eqb}
 use lib.ListN.{length, drop, length-append}
 use lib.Seq.{drop_at}
+use Rattle.std.specs.Prelude.{Ok}
 use Rattle.numerals.specs.Render.{lf}
 use Rattle.answer.specs.declared.Sheet.{Sheet}
 use Rattle.answer.specs.Sheets.{answer_to}
 use Rattle.answer.proofs.SomeAnswer.{some-answer}
 use Rattle.lists.specs.declared.Reader.{Reader}
 use Rattle.lists.specs.declared.Taken.{Taken}
-use Rattle.lists.specs.Parts.{line_in, fresh, grown, Stand, read_from, stand_in, first_answer, no_room, part_answer, not_taken}
+use Rattle.lists.specs.Parts.{line_in, fresh, grown, Stand, read_from, stand_in, first_answer, Called, no_room, part_answer, taken_of, not_taken}
 
 -- a text fits the room lent, or it does not
 pub fits_or_not : (room : ℕ) (s : List ℕ) (P : Type 0) → (length s ≤ room → P) → (room < length s → P) → P
@@ -156,17 +157,20 @@ module _ (sheet : Sheet) (room : ℕ) where
         length (first_answer sheet r part) ≤ room
         → part_answer sheet room r part
         ≡ record {
-          refusal = 0;
+          told =
+              Ok
+              (record {
+                took = length part - length (stand_in sheet room r part).left;
+                wrote = length (stand_in sheet room r part).text;
+              });
           reader = (stand_in sheet room r part).reader;
-          took = length part - length (stand_in sheet room r part).left;
-          wrote = length (stand_in sheet room r part).text;
         }
     unfolding part_answer
     answer-fits h = rw (le-ltb room (length (first_answer sheet r part)) h)
 
     -- what is not taken: all of it on a refusal, else what the reader leaves
     pub not_taken_full : room < length (first_answer sheet r part) → not_taken sheet room r part ≡ part
-    not_taken_full h = ap (λ (t : Taken). drop t.took part) (answer-full h)
+    not_taken_full h = ap (λ (c : Called Taken). drop (taken_of c.told).took part) (answer-full h)
 
     pub not_taken_fits : length (first_answer sheet r part) ≤ room → not_taken sheet room r part ≡ (stand_in sheet room r part).left
-    not_taken_fits h = ap (λ (t : Taken). drop t.took part) (answer-fits h) ∙ left_is r part
+    not_taken_fits h = ap (λ (c : Called Taken). drop (taken_of c.told).took part) (answer-fits h) ∙ left_is r part

@@ -18,10 +18,10 @@ use Rattle.answer.specs.Sheets.{answer_to, longest_answer}
 use Rattle.lists.specs.declared.Reader.{Reader}
 use Rattle.lists.specs.declared.Taken.{Taken}
 use Rattle.lists.specs.Whole.{answers_from, answers_to}
-use Rattle.lists.specs.Parts.{line_in, new_reader, fresh, grown, closing, Stand, read_from, stand_in, part_answer, not_taken, Answered, closed, unclosed, offered}
+use Rattle.lists.specs.Parts.{line_in, new_reader, fresh, grown, closing, Stand, read_from, stand_in, Called, part_answer, taken_of, not_taken, Answered, closed, unclosed, offered}
 use Rattle.lists.proofs.HeldLaws.{held_over, held_whole, over_answer}
 use Rattle.lists.proofs.StandLaws.{first-full, answer-full, answer-fits, not_taken_full, not_taken_fits}
-use Rattle.lists.proofs.PartLaws.{grown-held, grown_over}
+use Rattle.lists.proofs.PartLaws.{grown-held, grown_over, grown-length}
 use Rattle.lists.proofs.Progress.{fits_or_full, takes, never-refused}
 use Rattle.lists.proofs.CloseLaws.{close_full, close_sixteen, close_never_refused}
 
@@ -36,14 +36,6 @@ over_alike sheet a b (c ∷ cs) h k =
 
 -- ---- one byte more
 module _ (r : Reader) (full : length r.held ≡ longest) (c : ℕ) where
-  pub grown-full : length (grown r c).held ≡ longest
-  grown-full = go (ltb r.count longest) refl
-    where
-      go : (t : Bool) → ltb r.count longest ≡ t → length (grown r c).held ≡ longest
-      go true e =
-          ap (λ (q : Reader). length q.held) (grown-held r c (ltb-true r.count longest e)) ∙ length-set r.held r.count c ∙ full
-      go false e = ap (λ (q : Reader). length q.held) (grown_over r c (ltb-false r.count longest e)) ∙ full
-
   -- held with the others
   one_more : r.count < longest → line_in (grown r c) ≡ line_in r ++ (c ∷ [])
   one_more h =
@@ -115,7 +107,7 @@ module _ (sheet : Sheet) (room : ℕ) (s : List ℕ) where
   part_is r text (c ∷ cs) h =
       step r h text c cs (eqb c lf) (ltb room (length (text ++ answer_to sheet (line_in r)))) refl
       (part_is (fresh r) (text ++ answer_to sheet (line_in r)) cs h)
-      (part_is (grown r c) text cs (grown-full r h c))
+      (part_is (grown r c) text cs (grown-length r c h))
 
   -- and the array keeps its length
   pub part_full : (r : Reader) (text part : List ℕ) → length r.held ≡ longest → length (read_from sheet room r text part).reader.held ≡ longest
@@ -123,7 +115,7 @@ module _ (sheet : Sheet) (room : ℕ) (s : List ℕ) where
   part_full r text [] h = h
   part_full r text (c ∷ cs) h =
       go (eqb c lf) (ltb room (length (text ++ answer_to sheet (line_in r))))
-      (part_full (fresh r) (text ++ answer_to sheet (line_in r)) cs h) (part_full (grown r c) text cs (grown-full r h c))
+      (part_full (fresh r) (text ++ answer_to sheet (line_in r)) cs h) (part_full (grown r c) text cs (grown-length r c h))
     where
       go :
           (a b : Bool)
@@ -143,8 +135,8 @@ module _ (sheet : Sheet) (room : ℕ) (s : List ℕ) where
 pub next-full : (sheet : Sheet) (room : ℕ) (r : Reader) (part : List ℕ) → length r.held ≡ longest → length (part_answer sheet room r part).reader.held ≡ longest
 next-full sheet room r part full =
     fits_or_full sheet room r part (length (part_answer sheet room r part).reader.held ≡ longest)
-    (λ h. ap (λ (t : Taken). length t.reader.held) (answer-fits sheet room r part h) ∙ part_full sheet room [] r [] part full)
-    (λ h. ap (λ (t : Taken). length t.reader.held) (answer-full sheet room r part h) ∙ full)
+    (λ h. ap (λ (t : Called Taken). length t.reader.held) (answer-fits sheet room r part h) ∙ part_full sheet room [] r [] part full)
+    (λ h. ap (λ (t : Called Taken). length t.reader.held) (answer-full sheet room r part h) ∙ full)
 
 -- what a call wrote and what is owed after it is what was owed before; of a call that is refused all is owed still
 module _ (sheet : Sheet) (room : ℕ) (r : Reader) (full : length r.held ≡ longest) (part s text : List ℕ) where
@@ -159,13 +151,13 @@ module _ (sheet : Sheet) (room : ℕ) (r : Reader) (full : length r.held ≡ lon
       (λ h.
       ap (λ (l : List ℕ). (stand_in sheet room r part).text ++ l)
       (e
-      ∙ ap (λ (t : Taken). answers_from sheet (line_in t.reader) rest) (answer-fits sheet room r part h)
+      ∙ ap (λ (t : Called Taken). answers_from sheet (line_in t.reader) rest) (answer-fits sheet room r part h)
       ∙ ap (λ (l : List ℕ). answers_from sheet (line_in (stand_in sheet room r part).reader) (l ++ s)) (not_taken_fits sheet room r part h))
       ∙ sym (part_is sheet room s r [] part full))
       (λ h.
       ap (λ (l : List ℕ). l ++ text) (first-full sheet room r part h).0
       ∙ e
-      ∙ ap (λ (t : Taken). answers_from sheet (line_in t.reader) rest) (answer-full sheet room r part h)
+      ∙ ap (λ (t : Called Taken). answers_from sheet (line_in t.reader) rest) (answer-full sheet room r part h)
       ∙ ap (λ (l : List ℕ). answers_from sheet (line_in r) (l ++ s)) (not_taken_full sheet room r part h))
 
 -- at the end
@@ -177,7 +169,7 @@ closing-is sheet r = refl
 pub answered-from : {sheet : Sheet} {r : Reader} {s text : List ℕ} → length r.held ≡ longest → Answered sheet r s text → text ≡ answers_from sheet (line_in r) s
 answered-from {sheet} h (closed room r e) = closing-is sheet r
 answered-from {sheet} h (unclosed room r text e a) =
-    let same = ap (λ (t : Taken). t.reader) (close_full room r ((close_sixteen room r).0 e)) in
+    let same = ap (λ (t : Called ℕ). t.reader) (close_full room r ((close_sixteen room r).0 e)) in
     answered-from (ap (λ (q : Reader). length q.held) same ∙ h) a ∙ ap (λ (q : Reader). answers_from sheet (line_in q) []) same
 answered-from {sheet} h (offered room r part s text a) =
     one_call sheet room r h part s text (answered-from (next-full sheet room r part h) a)
@@ -207,7 +199,7 @@ answered_in sheet (suc n) r (c ∷ cs) full h =
     let t = part_answer sheet room r part in
     let rest = not_taken sheet room r part in
     let some = takes sheet room r part (never-refused sheet room r part (omega arith)) (omega arith) in
-    let more = answered_in sheet n t.reader rest (next-full sheet room r part full) (omega (arith, h, some, length-drop t.took part)) in
+    let more = answered_in sheet n t.reader rest (next-full sheet room r part full) (omega (arith, h, some, length-drop (taken_of t.told).took part)) in
     let same = append-nil rest in
     subst (λ (l : List ℕ). Answered sheet r l (answers_from sheet (line_in r) l)) (append-nil part)
     (subst (Answered sheet r (part ++ []))

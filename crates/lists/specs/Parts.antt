@@ -1,7 +1,8 @@
 -- A list read in parts, 02 K1: what a reader holds of an unfinished line, what it makes of a part, byte by byte, and what a call answers.
 -- Definitions only.
-use Rattle.std.specs.Prelude.{ℕ, ◌+◌, ◌-◌, ◌<◌, ◌≤◌, ◌≡◌, cond, List, [], ◌∷◌, ◌++◌, eqb, ltb, length, take, drop, set, replicate}
-use Rattle.refusals.specs.Order as No
+use Rattle.std.specs.Prelude.{ℕ, ◌+◌, ◌-◌, ◌<◌, ◌≤◌, ◌≡◌, cond, List, [], ◌∷◌, ◌++◌, eqb, ltb, length, take, drop, set, replicate, Result, Ok, Err, IsOk}
+use Rattle.refusals.specs.declared.Refusal.{Refusal}
+use Rattle.refusals.specs.declared.Refusal.TheVariants as No
 use Rattle.lent.specs.Lent.{put, after}
 use Rattle.numerals.specs.Render.{lf}
 use Rattle.text.specs.Grammar.{longest}
@@ -67,52 +68,65 @@ unfolding held_line grown answer_to
 first_answer sheet r [] = []
 first_answer sheet r (c ∷ cs) = cond (eqb c lf) (answer_to sheet (line_in r)) (first_answer sheet (grown r c) cs)
 
--- refused: no byte is taken, none written, and the reader is as it was
-abbrev pub no_room : Reader → Taken
-no_room r = record { refusal = No.too_long; reader = r; took = 0; wrote = 0 }
+-- what a call tells, and the reader after it
+pub record Called (A : Type 0) : Type 0 where
+  pub told : Result A Refusal
+  pub reader : Reader
+
+-- refused: the reader is as it was
+abbrev pub no_room : {A : Type 0} → Reader → Called A
+no_room r = record { told = Err No.TooLong; reader = r }
 
 -- to a part: refused where nothing would be written, its first answer longer than the room lent
-unfoldable pub part_answer : Sheet → ℕ → Reader → List ℕ → Taken
+unfoldable pub part_answer : Sheet → ℕ → Reader → List ℕ → Called Taken
 unfolding first_answer read_from
 part_answer sheet room r part =
     cond (ltb room (length (first_answer sheet r part)))
     (no_room r)
     (record {
-      refusal = 0;
+      told =
+          Ok
+          (record {
+            took = length part - length (stand_in sheet room r part).left;
+            wrote = length (stand_in sheet room r part).text;
+          });
       reader = (stand_in sheet room r part).reader;
-      took = length part - length (stand_in sheet room r part).left;
-      wrote = length (stand_in sheet room r part).text;
     })
 
 -- to the close: refused where its answer is longer than the room lent; else the reader after it is a new one
-unfoldable pub close_answer : ℕ → Reader → Taken
+unfoldable pub close_answer : ℕ → Reader → Called ℕ
 unfolding closing
 close_answer room r =
-    cond (ltb room (length (closing r)))
-    (no_room r)
-    (record { refusal = 0; reader = new_reader; took = 0; wrote = length (closing r) })
+    cond (ltb room (length (closing r))) (no_room r) (record { told = Ok (length (closing r)); reader = new_reader })
 
--- what is promised of a part, the bytes b lent: the answer t, and the bytes b₁ that b became
-pub record PartTaken (sheet : Sheet) (r : Reader) (part b : List ℕ) (t : Taken) (b₁ : List ℕ) : Type 0 where
-  pub answer : t ≡ part_answer sheet (length b) r part
+-- what was taken and written: no byte on a refusal
+abbrev pub taken_of : Result Taken Refusal → Taken
+taken_of (Ok t) = t
+taken_of (Err n) = record { took = 0; wrote = 0 }
+
+-- what is promised of a part, the bytes b lent to the reader r: what is told, t, the reader r₁ after it, and the bytes b₁ that b became
+pub record PartTaken (sheet : Sheet) (r : Reader) (part b : List ℕ) (t : Result Taken Refusal) (r₁ : Reader) (b₁ : List ℕ) : Type 0 where
+  pub answer : t ≡ (part_answer sheet (length b) r part).told
+  pub reader : r₁ ≡ (part_answer sheet (length b) r part).reader
   pub bytes : b₁ ≡ put b 0 (stand_in sheet (length b) r part).text
 
 -- what is promised of the close
-pub record Closed (r : Reader) (b : List ℕ) (t : Taken) (b₁ : List ℕ) : Type 0 where
-  pub answer : t ≡ close_answer (length b) r
+pub record Closed (r : Reader) (b : List ℕ) (t : Result ℕ Refusal) (r₁ : Reader) (b₁ : List ℕ) : Type 0 where
+  pub answer : t ≡ (close_answer (length b) r).told
+  pub reader : r₁ ≡ (close_answer (length b) r).reader
   pub bytes : b₁ ≡ after b (closing r)
 
 -- ---- a list in parts
 -- what is left of a part after a call
 abbrev pub not_taken : Sheet → ℕ → Reader → List ℕ → List ℕ
-not_taken sheet room r part = drop (part_answer sheet room r part).took part
+not_taken sheet room r part = drop (taken_of (part_answer sheet room r part).told).took part
 
 -- the texts that a reader writes for a list offered in parts, with any room at each call, the bytes not taken offered again with what
 -- follows; and at the close, tried until it is not refused
 pub data Answered (sheet : Sheet) : Reader → List ℕ → List ℕ → Type 0 where
-  closed : (room : ℕ) (r : Reader) → (close_answer room r).refusal ≡ 0 → Answered sheet r [] (closing r)
+  closed : (room : ℕ) (r : Reader) → IsOk (close_answer room r).told → Answered sheet r [] (closing r)
   unclosed :
-      (room : ℕ) (r : Reader) (text : List ℕ) → (close_answer room r).refusal ≡ No.too_long
+      (room : ℕ) (r : Reader) (text : List ℕ) → (close_answer room r).told ≡ Err No.TooLong
       → Answered sheet (close_answer room r).reader [] text → Answered sheet r [] text
   offered :
       (room : ℕ) (r : Reader) (part s text : List ℕ)
@@ -120,10 +134,10 @@ pub data Answered (sheet : Sheet) : Reader → List ℕ → List ℕ → Type 0 
       → Answered sheet r (part ++ s) ((stand_in sheet room r part).text ++ text)
 
 -- every caller ends who offers some byte of the list at each call and, where the call before was refused, room for the longest answer
-pub data Ends (sheet : Sheet) : ℕ → Reader → List ℕ → Type 0 where
+pub data Ends (sheet : Sheet) : Result Taken Refusal → Reader → List ℕ → Type 0 where
   ends :
-      (refusal : ℕ) (r : Reader) (list : List ℕ)
+      (told : Result Taken Refusal) (r : Reader) (list : List ℕ)
       → ((room : ℕ) (part s : List ℕ) → list ≡ part ++ s → 0 < length part
-      → (refusal ≡ No.too_long → longest_answer sheet ≤ room)
-      → Ends sheet (part_answer sheet room r part).refusal (part_answer sheet room r part).reader (not_taken sheet room r part ++ s))
-      → Ends sheet refusal r list
+      → (told ≡ Err No.TooLong → longest_answer sheet ≤ room)
+      → Ends sheet (part_answer sheet room r part).told (part_answer sheet room r part).reader (not_taken sheet room r part ++ s))
+      → Ends sheet told r list

@@ -1,6 +1,6 @@
 -- The answers to a whole list of requests: one at each LF, and that to a malformed line for a last one without it. Definitions only.
 use Rattle.std.specs.Prelude.{ℕ, cond, List, [], ◌∷◌, ◌++◌, eqb, length}
-use Rattle.refusals.specs.Order as No
+use Rattle.refusals.specs.declared.Refusal.TheVariants as No
 use Rattle.numerals.specs.Render.{lf}
 use Rattle.lines.specs.Lines.{no_line}
 use Rattle.answer.specs.declared.Sheet.{Sheet}
@@ -9,7 +9,7 @@ use Rattle.answer.specs.Sheets.{answer_to}
 -- the answer to a last line without an LF: none if it has no byte
 unfoldable pub ending : List ℕ → List ℕ
 unfolding no_line
-ending line = cond (eqb (length line) 0) [] (no_line No.malformed)
+ending line = cond (eqb (length line) 0) [] (no_line No.Malformed)
 
 -- the answers to the bytes that follow the start of a line
 unfoldable pub answers_from : Sheet → List ℕ → List ℕ → List ℕ

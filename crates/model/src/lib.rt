@@ -5,7 +5,8 @@
 use request::Style;
 
 // The completed figures that the model reads: magnitude in hundredths, Vs30 in m/s, dip in degrees,
-// lengths and depths in metres.
+// lengths and depths in metres. Plain, as the rows that follow: the definitions make one of any request, in range
+// or not, so that an invariant would ask each of them for a proof.
 #[derive(Clone, Copy)]
 pub struct Scenario {
     pub m: u64,

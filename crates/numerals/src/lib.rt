@@ -9,8 +9,7 @@ ghost use Rattle.lent.specs.Lent.{Written};
 ghost use Rattle.numerals.specs.Render.{render, render_signed, ended};
 
 use lent::put_byte;
-pub use read::{Plain, plain_number};
-use sizes::size_of;
+pub use read::plain_number;
 
 // A number in decimal digits.
 pub fn put_number(b: &mut [u8], at: usize, n: u64) -> usize
@@ -29,7 +28,7 @@ pub fn put_signed(b: &mut [u8], at: usize, z: i64) -> usize
     requires { at + length (render_signed z) ≤ length b.old }
     ensures { Written b.old at (render_signed z) result b.new }
 {
-    let n = size_of(z);
+    let n = z.unsigned_abs();
     if z < 0 {
         let p = put_byte(b, at, b'-');
         return put_number(b, p, n);
@@ -57,10 +56,11 @@ pub fn digits(n: u64) -> usize
 }
 
 // How many bytes put_signed writes.
+#[tactic(auto, using(crate::proofs::RenderLaws::below_zero, crate::proofs::RenderLaws::not_below_zero))]
 pub fn width(z: i64) -> usize
     ensures { (result ≡ length (render_signed z)) × (result ≤ 21) }
 {
-    let n = digits(size_of(z));
+    let n = digits(z.unsigned_abs());
     if z < 0 {
         return n + 1;
     }

@@ -1,35 +1,36 @@
-// One measure of a line, laid in two numbers that a caller lends.
+// One measure of a line, laid in two numbers that a caller lends. It is told by a number, since C has no
+// `Result`.
 #![tactic(auto)]
 
 ghost use Rattle.std.specs.Prelude.{◌≡◌};
 ghost use Rattle.text.specs.Grammar.{line_of};
 ghost use Rattle.one_measure.specs.OneMeasures.{measure_answer, MeasureGiven};
 
-use prediction::{OneMeasure, predict_measure};
-use refusals::MALFORMED;
-use text::{Line, read_line};
+use prediction::{MedianAndSigma, predict_measure};
+use refusals::Refusal;
+use text::read_line;
 
 // The answer for one measure of a line without its LF.
-fn measure_of(line: &[u8], measure: u64) -> OneMeasure
+#[tactic(auto, unfolding(crate::specs::OneMeasures::measure_answer))]
+fn measure_of(line: &[u8], measure: u64) -> Result<MedianAndSigma, Refusal>
     ensures { result ≡ measure_answer (line_of line.now) measure }
 {
-    match read_line(line) {
-        Line::Is(r) => predict_measure(r, measure),
-        Line::Malformed => OneMeasure::Refused(MALFORMED),
-    }
+    let r = read_line(line).ok_or(Refusal::Malformed)?;
+    predict_measure(r, measure)
 }
 
 // One measure of a line without its LF: 0, and its median and total sigma; or the refusal's number,
 // and both as they were.
+#[tactic(auto, unfolding(prediction::specs::Measures::median_in, prediction::specs::Measures::sigma_in))]
 pub fn measure_in(line: &[u8], measure: u64, median: &mut f64, total: &mut f64) -> u32
     ensures { MeasureGiven (measure_answer (line_of line.now) measure) result median.old median.new total.old total.new }
 {
     match measure_of(line, measure) {
-        OneMeasure::Value(y, sigma) => {
-            *median = y;
-            *total = sigma;
+        Ok(shown) => {
+            *median = shown.median;
+            *total = shown.sigma;
             0
         }
-        OneMeasure::Refused(n) => n,
+        Err(refusal) => u32::from(refusal),
     }
 }

@@ -1,18 +1,18 @@
 -- The row at a period of an accepted request is as near the exact one as demand 3 asks; at a tabulated period it is the spectrum's row; no
--- figure is lost as f64; `no_period` is given exactly when the request is accepted and the period is not covered. Assumes nothing.
+-- figure is lost as f64; `NoPeriod` is given exactly when the request is accepted and the period is not covered. Assumes nothing.
 use Prim.Native.Nat.{ℕ, ◌+◌, ◌≤◌, ◌<◌}
 use mathlib.Core.Path.{◌≡◌, refl, sym, ap, subst, ◌∙◌}
 use mathlib.Core.Bool.{Bool, true, false}
-use mathlib.Core.List.{List}
 use mathlib.Core.Logic.{◌↔◌}
 use native.Mathlib.Omega.{arith}
 use native.Mathlib.Nat.{le_trans}
 use lib.Dec.{T, leb, leb→le, lit≤}
 use lib.Ieee.Fits.{and_l, and_r}
 use lib.ListN.{get_or}
-use Rattle.refusals.specs.Order as No
+use Rattle.std.specs.Prelude.{None, Ok, Err}
+use Rattle.refusals.specs.declared.Refusal.{Refusal}
+use Rattle.refusals.specs.declared.Refusal.TheVariants as No
 use Rattle.request.specs.declared.Request.{Request}
-use Rattle.outcome.specs.declared.Completion.TheVariants as C
 use Rattle.outcome.specs.Refusals.{refusal}
 use Rattle.outcome.specs.Answers.{completed, completion_of}
 use Rattle.outcome.proofs.ExactlyWhen.{accepted_by, period_unread}
@@ -29,26 +29,25 @@ use Rattle.between.specs.Fixed.{drawn_fixed, drawn_report, to_millionths, row_at
 use Rattle.between.proofs.Accurate.{Weighed, by_place, line-median-fits, period_accurate}
 use Rattle.between.proofs.Sizes.{drawn_in_range}
 use Rattle.between.proofs.Tabulated.{tabulated_covered, tabulated_row}
-use Rattle.prediction.specs.Spectra.{scenario_of, spectrum_of}
+use Rattle.prediction.specs.Spectra.{scenario_of, spectrum_of, rows_in}
 use Rattle.prediction.specs.Sizes.{Small}
 use Rattle.prediction.proofs.Completed.{accepted, in_range}
 use Rattle.prediction.proofs.RowLaws.{row_is, spectrum_done, by_completion, fixed_small}
 use Rattle.prediction.proofs.FloatLaws.{row_same}
-use Rattle.one_period.specs.declared.OnePeriod.TheVariants as P
-use Rattle.one_period.specs.OnePeriods.{period_for, period_of, float_period, float_period_of, RowNear, row_near, SamePeriod, same_row, same_number}
+use Rattle.one_period.specs.OnePeriods.{period_for, period_of, float_period, float_period_of, RowNear, row_near, SamePeriod, same_row, same_refusal}
 
 -- ---- the cases
-pub period_refused : (r : Request) (n t : ℕ) → completion_of r ≡ C.Refused n → period_of r t ≡ P.Refused n
+pub period_refused : (r : Request) (n : Refusal) (t : ℕ) → completion_of r ≡ Err n → period_of r t ≡ Err n
 unfolding period_of period_for
 period_refused r n t e = rw e
 
 pub period_none :
-    (r : Request) (c : Request) (t : ℕ) → completion_of r ≡ C.Done c → covered t ≡ false → period_of r t ≡ P.Refused No.no_period
+    (r c : Request) (t : ℕ) → completion_of r ≡ Ok c → covered t ≡ false → period_of r t ≡ Err No.NoPeriod
 unfolding period_of period_for
 period_none r c t e h = rw (e, h)
 
 pub period_row :
-    (r : Request) (c : Request) (t : ℕ) → completion_of r ≡ C.Done c → covered t ≡ true → period_of r t ≡ P.Value (row_at t (scenario_of c))
+    (r c : Request) (t : ℕ) → completion_of r ≡ Ok c → covered t ≡ true → period_of r t ≡ Ok (row_at t (scenario_of c))
 unfolding period_of period_for
 period_row r c t e h = rw (e, h)
 
@@ -61,19 +60,19 @@ pub covered-high : (t : ℕ) → covered t ≡ true → t ≤ 10000
 covered-high t h = leb→le t 10000 (and_r (leb 10 t) (leb t 10000) (subst T (sym h) tt))
 
 pub accepted_period :
-    (r : Request) (c : Request) (t : ℕ) → completion_of r ≡ C.Done c → covered t ≡ true → RowNear (exact_at t (scenario_of c)) (period_of r t)
+    (r c : Request) (t : ℕ) → completion_of r ≡ Ok c → covered t ≡ true → RowNear (exact_at t (scenario_of c)) (period_of r t)
 accepted_period r c t e h =
     rw (period_row r c t e h) (row_near (period_accurate t (scenario_of c) (covered-low t h) (covered-high t h) (in_range r c e)))
 
 -- at a tabulated period, the spectrum's row
 pub tabulated_period :
-    (r : Request) (c : Request) (i : ℕ) → completion_of r ≡ C.Done c → i < 21
-    → period_of r (period_at i) ≡ P.Value (get_or (spectrum_of r).rows i no_row)
+    (r c : Request) (i : ℕ) → completion_of r ≡ Ok c → i < 21
+    → period_of r (period_at i) ≡ Ok (get_or (rows_in (spectrum_of r)) i no_row)
 tabulated_period r c i e h =
     period_row r c (period_at i) e (tabulated_covered i h)
-    ∙ ap P.Value
+    ∙ ap Ok
     (tabulated_row i (scenario_of c) h
-    ∙ sym (ap (λ (l : List Row). get_or l i no_row) (spectrum_done r c e) ∙ row_is (scenario_of c) i (le_trans h (lit≤ tt))))
+    ∙ sym (rw (spectrum_done r c e) (row_is (scenario_of c) i (le_trans h (lit≤ tt)))))
 
 -- ---- as f64
 -- a row between two is small, as a measure's is
@@ -104,21 +103,16 @@ period_small t x l h r =
     by_place (λ (e : Exact) (w : Row). Small w) t x l h (λ i k. fixed_small i x k r) (λ i w w' k g. drawn_small x i w w' r k g)
 
 -- so is any row that is answered
-same-value : (v w : Row) → P.Value v ≡ P.Value w → v ≡ w
-same-value v w e = cc
-
-no_number : (n : ℕ) (w : Row) → P.Refused n ≡ P.Value w → ⊥
-no_number n w e = let z : ◌≡◌ {A = ℕ} 0 1 = cc in omega arith
-
-pub value-small : (r : Request) (t : ℕ) (w : Row) → period_of r t ≡ P.Value w → Small w
+pub value-small : (r : Request) (t : ℕ) (w : Row) → period_of r t ≡ Ok w → Small w
 value-small r t w a =
-    by_completion r (λ c e. by_test c e (covered t) refl) (λ n e. absurd (no_number n w (sym (period_refused r n t e) ∙ a)))
+    by_completion r (λ c e. by_test c e (covered t) refl) (λ n e. let d = period_refused r n t e in absurd cc)
   where
-    by_test : (c : Request) → completion_of r ≡ C.Done c → (b : Bool) → covered t ≡ b → Small w
+    by_test : (c : Request) → completion_of r ≡ Ok c → (b : Bool) → covered t ≡ b → Small w
     by_test c e true h =
-        subst Small (same-value (row_at t (scenario_of c)) w (sym (period_row r c t e h) ∙ a))
-        (period_small t (scenario_of c) (covered-low t h) (covered-high t h) (in_range r c e))
-    by_test c e false h = absurd (no_number No.no_period w (sym (period_none r c t e h) ∙ a))
+        let d = period_row r c t e h in
+        let is : row_at t (scenario_of c) ≡ w = cc in
+        subst Small is (period_small t (scenario_of c) (covered-low t h) (covered-high t h) (in_range r c e))
+    by_test c e false h = let d = period_none r c t e h in absurd cc
 
 -- and every figure is the whole number
 pub nothing_lost : (r : Request) (t : ℕ) → SamePeriod (float_period_of r t) (period_of r t)
@@ -126,29 +120,26 @@ unfolding float_period_of float_period
 nothing_lost r t =
     by_completion r
     (λ c e. by_test c e (covered t) refl)
-    (λ n e. rw (period_refused r n t e) (same_number n))
+    (λ n e. rw (period_refused r n t e) (same_refusal n))
   where
-    by_test : (c : Request) → completion_of r ≡ C.Done c → (b : Bool) → covered t ≡ b → SamePeriod (float_period (period_of r t)) (period_of r t)
+    by_test : (c : Request) → completion_of r ≡ Ok c → (b : Bool) → covered t ≡ b → SamePeriod (float_period (period_of r t)) (period_of r t)
     by_test c e true h =
         rw (period_row r c t e h)
         (same_row (row_same (row_at t (scenario_of c)) (period_small t (scenario_of c) (covered-low t h) (covered-high t h) (in_range r c e))))
-    by_test c e false h = rw (period_none r c t e h) (same_number No.no_period)
+    by_test c e false h = rw (period_none r c t e h) (same_refusal No.NoPeriod)
 
 -- ---- exactly when
-same-refusal : (m n : ℕ) → P.Refused m ≡ P.Refused n → m ≡ n
-same-refusal m n e = cc
-
-no_value : (w : Row) (n : ℕ) → P.Value w ≡ P.Refused n → ⊥
-no_value w n e = let z : ◌≡◌ {A = ℕ} 0 1 = cc in omega arith
-
-pub no_period_exactly : (r : Request) (t : ℕ) → (period_of r t ≡ P.Refused No.no_period) ↔ ((refusal r ≡ 0) × (covered t ≡ false))
+pub no_period_exactly : (r : Request) (t : ℕ) → (period_of r t ≡ Err No.NoPeriod) ↔ ((refusal r ≡ None) × (covered t ≡ false))
 no_period_exactly r t = (there, λ p. period_none r (completed r) t (accepted_by r p.0) p.1)
   where
-    by_test : (c : Request) → completion_of r ≡ C.Done c → period_of r t ≡ P.Refused No.no_period → (b : Bool) → covered t ≡ b → covered t ≡ false
+    by_test : (c : Request) → completion_of r ≡ Ok c → period_of r t ≡ Err No.NoPeriod → (b : Bool) → covered t ≡ b → covered t ≡ false
     by_test c e h false u = u
-    by_test c e h true u = absurd (no_value (row_at t (scenario_of c)) No.no_period (sym (period_row r c t e u) ∙ h))
+    by_test c e h true u = let d = period_row r c t e u in absurd cc
 
-    there : period_of r t ≡ P.Refused No.no_period → (refusal r ≡ 0) × (covered t ≡ false)
+    there : period_of r t ≡ Err No.NoPeriod → (refusal r ≡ None) × (covered t ≡ false)
     there h =
         by_completion r (λ c e. (accepted r c e, by_test c e h (covered t) refl))
-        (λ n e. absurd (period_unread r (e ∙ ap C.Refused (same-refusal n No.no_period (sym (period_refused r n t e) ∙ h)))))
+        (λ n e.
+        let d = period_refused r n t e in
+        let is : n ≡ No.NoPeriod = cc in
+        absurd (period_unread r (e ∙ ap Err is)))

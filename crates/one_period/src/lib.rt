@@ -5,49 +5,29 @@
 ghost use Rattle.std.specs.Prelude.{◌≡◌};
 ghost use Rattle.one_period.specs.OnePeriods.{period_of, float_period_of};
 
-use completion::{Completion, complete, number_of};
+use completion::complete;
 use model::Row;
 use periods::{is_covered, row_at_period};
 use prediction::{FloatRow, float_row, scenario_of};
-use refusals::NO_PERIOD;
+use refusals::Refusal;
 use request::Request;
-
-// The row at a period, or the refusal's number.
-#[derive(Drop)]
-pub enum OnePeriod {
-    Value(Row),
-    Refused(u32),
-}
-
-// The same as f64.
-#[derive(Drop)]
-pub enum FloatPeriod {
-    Value(FloatRow),
-    Refused(u32),
-}
 
 // Predicts one period of any request, in thousandths of a second. It asks for nothing: the period may be
 // any number.
-pub fn predict_period(r: Request, period: u64) -> OnePeriod
+pub fn predict_period(r: Request, period: u64) -> Result<Row, Refusal>
     ensures { result ≡ period_of r period }
 {
-    let c = complete(r);
-    let Completion::Done(f) = c else {
-        return OnePeriod::Refused(number_of(c));
-    };
+    let c = complete(r)?;
     if !is_covered(period) {
-        return OnePeriod::Refused(NO_PERIOD);
+        return Err(Refusal::NoPeriod);
     }
-    let x = scenario_of(f);
-    OnePeriod::Value(row_at_period(period, x))
+    Ok(row_at_period(period, scenario_of(c)))
 }
 
 // The same, each figure the whole number as an f64.
-pub fn predict_float_period(r: Request, period: u64) -> FloatPeriod
+pub fn predict_float_period(r: Request, period: u64) -> Result<FloatRow, Refusal>
     ensures { result ≡ float_period_of r period }
 {
-    match predict_period(r, period) {
-        OnePeriod::Value(row) => FloatPeriod::Value(float_row(row)),
-        OnePeriod::Refused(n) => FloatPeriod::Refused(n),
-    }
+    let row = predict_period(r, period)?;
+    Ok(float_row(row))
 }

@@ -1,6 +1,6 @@
 -- Which of the given figures were measured and which inferred changes no number: a request with that forgotten has the answer with that
 -- forgotten. So whatever is made of an answer without reading it is the same for two requests that differ in nothing else. Assumes nothing.
-use Prim.Native.Nat.{ℕ, zero, suc}
+use Prim.Native.Nat.{ℕ}
 use mathlib.Core.Path.{◌≡◌, refl, sym, ap, ◌∙◌}
 use mathlib.Core.Bool.{Bool}
 use mathlib.Core.List.{[], ◌∷◌, ◌++◌}
@@ -11,13 +11,13 @@ use Rattle.request.specs.Fields.{size_of}
 use Rattle.request.specs.Styles.{top_magnitude}
 use Rattle.request.specs.Origins.{each, as_measured, forget}
 use Rattle.request.proofs.OriginLaws.{given-alike, blank-alike, value-alike, size-alike, within-alike, allowed-alike, marked-alike, measured-twice}
-use Rattle.refusals.specs.Order.{Rows, first}
-use Rattle.refusals.specs.Order as No
-use Rattle.outcome.specs.declared.Completion.{Completion}
-use Rattle.outcome.specs.declared.Completion.TheVariants as C
+use Rattle.std.specs.Prelude.{Option, Some, None, Result, Ok, Err}
+use Rattle.refusals.specs.Order.{Rows, first, unless, number_in}
+use Rattle.refusals.specs.declared.Refusal.{Refusal}
+use Rattle.refusals.specs.declared.Refusal.TheVariants as No
 use Rattle.outcome.specs.Figures.{style, dip, width, zhyp, tenths_of, zhyp_tenths, ztor, rrup, basin_of, z25}
 use Rattle.outcome.specs.Refusals.{marked_rows, source_given, source_rows, above_rupture, path_given, too_short, too_far, path_rows, site_given, site_rows, rows, refusal}
-use Rattle.outcome.specs.Answers.{completed, answer, completion_of, number_of}
+use Rattle.outcome.specs.Answers.{completed, completion_of}
 use Rattle.outcome.specs.Forgotten.{forgotten}
 use Rattle.outcome.proofs.FigureLaws.{six, completed-alike}
 
@@ -26,7 +26,7 @@ joined h k = rw (h, k)
 
 -- the rows of the path that read completed figures, by what they read
 abbrev lengths : ℕ → Bool → Bool → Rows
-lengths n short far = (No.rrup, ltb 200000 n) ∷ (No.too_short, short) ∷ (No.too_far, far) ∷ []
+lengths n short far = (No.Rrup, ltb 200000 n) ∷ (No.TooShort, short) ∷ (No.TooFar, far) ∷ []
 
 lengths-same : {m n : ℕ} {a b c d : Bool} → m ≡ n → a ≡ b → c ≡ d → lengths m a c ≡ lengths n b d
 lengths-same h k l = rw (h, k, l)
@@ -103,7 +103,7 @@ module _ (r : Request) where
 
   source_same : source_rows (forget r) ≡ source_rows r
   unfolding source_rows
-  source_same = joined given-same (ap (λ (n : ℕ). (No.top, ltb 15000 n) ∷ []) (ap size_of ztor-alike ∙ size-alike (ztor r)))
+  source_same = joined given-same (ap (λ (n : ℕ). (No.Top, ltb 15000 n) ∷ []) (ap size_of ztor-alike ∙ size-alike (ztor r)))
 
   above_same : above_rupture (forget r) ≡ above_rupture r
   unfolding above_rupture forget each
@@ -159,26 +159,26 @@ module _ (r : Request) where
 
   site_same : site_rows (forget r) ≡ site_rows r
   unfolding site_rows
-  site_same = joined site_given_same (ap (λ (n : ℕ). (No.basin, ltb 10000 n) ∷ []) (ap size_of z25-alike ∙ size-alike (z25 r)))
+  site_same = joined site_given_same (ap (λ (n : ℕ). (No.Basin, ltb 10000 n) ∷ []) (ap size_of z25-alike ∙ size-alike (z25 r)))
 
   refusal-same : refusal (forget r) ≡ refusal r
   unfolding refusal rows
   refusal-same = ap first (joined marked-same (joined source_same (joined path_same site_same)))
 
 -- ---- the answer
-answer_forgets : (n : ℕ) (r : Request) → answer n (forget r) ≡ forgotten (answer n r)
-unfolding answer forgotten
-answer_forgets zero r = ap C.Done (completed_forgets r)
-answer_forgets (suc n) r = refl
+answer_forgets : (o : Option Refusal) (r : Request) → unless o (completed (forget r)) ≡ forgotten (unless o (completed r))
+unfolding forgotten
+answer_forgets None r = ap Ok (completed_forgets r)
+answer_forgets (Some n) r = refl
 
 pub origins_forgotten : (r : Request) → completion_of (forget r) ≡ forgotten (completion_of r)
 unfolding completion_of
-origins_forgotten r = ap (λ (n : ℕ). answer n (forget r)) (refusal-same r) ∙ answer_forgets (refusal r) r
+origins_forgotten r = ap (λ (o : Option Refusal). unless o (completed (forget r))) (refusal-same r) ∙ answer_forgets (refusal r) r
 
 -- what is made of an answer, and is the same of one that has forgotten, is the same for requests that differ only in what was measured and
 -- what inferred
 pub origins_unread :
-    {A : Type 0} (f : Completion → A) → ((c : Completion) → f (forgotten c) ≡ f c) → (r s : Request) → forget r ≡ forget s
+    {A : Type 0} (f : Result Request Refusal → A) → ((c : Result Request Refusal) → f (forgotten c) ≡ f c) → (r s : Request) → forget r ≡ forget s
     → f (completion_of r) ≡ f (completion_of s)
 origins_unread f unread r s e = sym (through r) ∙ ap (λ (q : Request). f (completion_of q)) e ∙ through s
   where
@@ -205,19 +205,19 @@ forget-twice r =
       measured-twice r.z25,
     )
 
-twice : (c : Completion) → forgotten (forgotten c) ≡ forgotten c
+twice : (c : Result Request Refusal) → forgotten (forgotten c) ≡ forgotten c
 unfolding forgotten
-twice (C.Done c) = ap C.Done (forget-twice c)
-twice (C.Refused n) = refl
+twice (Ok c) = ap Ok (forget-twice c)
+twice (Err n) = refl
 
 -- the number of a refusal
-pub same_number : (r s : Request) → forget r ≡ forget s → number_of (completion_of r) ≡ number_of (completion_of s)
+pub same_number : (r s : Request) → forget r ≡ forget s → number_in (completion_of r) ≡ number_in (completion_of s)
 unfolding forgotten
-same_number = origins_unread number_of unread
+same_number = origins_unread number_in unread
   where
-    unread : (c : Completion) → number_of (forgotten c) ≡ number_of c
-    unread (C.Done c) = refl
-    unread (C.Refused n) = refl
+    unread : (c : Result Request Refusal) → number_in (forgotten c) ≡ number_in c
+    unread (Ok c) = refl
+    unread (Err n) = refl
 
 -- and every figure of a completed record, but for its origin
 pub same_figures : (r s : Request) → forget r ≡ forget s → forgotten (completion_of r) ≡ forgotten (completion_of s)

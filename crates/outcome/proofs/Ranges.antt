@@ -8,6 +8,7 @@ use lib.Dec.{T}
 use lib.IntN.{ℤ, pos}
 use lib.Signed.{le_z}
 use borrow.Author.Tests.{not-false, ltb-false}
+use Rattle.std.specs.Prelude.{None}
 use Rattle.exact.proofs.Signed.{by_sign, abs-parts, le_parts}
 use Rattle.request.specs.declared.Field.{Field}
 use Rattle.request.specs.declared.Field.TheVariants.{Measured, Inferred, Estimated, Blank}
@@ -88,15 +89,15 @@ zhyp-most f s m h k = go (is_blank f)
     go true = hypocentre-top s m h
     go false = omega arith
 
-pub source_range : (r : Request) → first (source_given r) ≡ 0 → SourceRange r
+pub source_range : (r : Request) → first (source_given r) ≡ None → SourceRange r
 unfolding source_given dip width zhyp zhyp_tenths
 source_range r e =
-    let c1 = clear _ _ e tt in
-    let c2 = clear _ _ c1.1 tt in
-    let c3 = clear _ _ c2.1 tt in
-    let c4 = clear _ _ c3.1 tt in
-    let c5 = clear _ _ c4.1 tt in
-    let c6 = clear _ _ c5.1 tt in
+    let c1 = clear _ _ e in
+    let c2 = clear _ _ c1.1 in
+    let c3 = clear _ _ c2.1 in
+    let c4 = clear _ _ c3.1 in
+    let c5 = clear _ _ c4.1 in
+    let c6 = clear _ _ c5.1 in
     let m = magnitude r.m (style r) (not-false _ c2.0) in
     let v = within-size r.vs30 150 1500 (not-false _ c3.0) in
     let d = figure_range r.dip _ 15 90 (not-false _ c4.0) (dip_of_range (style r)).0 (dip_of_range (style r)).1 in
@@ -121,47 +122,47 @@ source_range r e =
     }
 
 -- with ZTOR, given or completed
-pub top_range : (r : Request) → first (source_rows r) ≡ 0 → size_of (ztor r) ≤ 15000
+pub top_range : (r : Request) → first (source_rows r) ≡ None → size_of (ztor r) ≤ 15000
 unfolding source_rows source_given
 top_range r e =
-    let t = first-both (source_given r) _ tt e in
-    ltb-false 15000 (size_of (ztor r)) (clear _ [] t.1 tt).0
+    let t = first-both (source_given r) _ e in
+    ltb-false 15000 (size_of (ztor r)) (clear _ [] t.1).0
 
-pub source_given_lem : (r : Request) → first (source_rows r) ≡ 0 → first (source_given r) ≡ 0
+pub source_given_lem : (r : Request) → first (source_rows r) ≡ None → first (source_given r) ≡ None
 unfolding source_rows source_given
-source_given_lem r e = (first-both (source_given r) _ tt e).0
+source_given_lem r e = (first-both (source_given r) _ e).0
 
 -- ---- the path
 pub record PathRange (r : Request) : Type 0 where
   pub rjb-high : size_of r.rjb ≤ 200000
   pub rrup-given : size_of r.rrup ≤ 200000
 
-pub path_range : (r : Request) → first (path_given r) ≡ 0 → PathRange r
+pub path_range : (r : Request) → first (path_given r) ≡ None → PathRange r
 unfolding path_given
 path_range r e =
-    let c8 = clear _ _ e tt in
-    let c9 = clear _ _ c8.1 tt in
-    let c10 = clear _ _ c9.1 tt in
-    let c11 = clear _ _ c10.1 tt in
+    let c8 = clear _ _ e in
+    let c9 = clear _ _ c8.1 in
+    let c10 = clear _ _ c9.1 in
+    let c11 = clear _ _ c10.1 in
     record {
       rjb-high = (within-size r.rjb 0 200000 (not-false _ c8.0)).1;
       rrup-given = allowed-size r.rrup 0 200000 (not-false _ c11.0);
     }
 
-pub path_given_lem : (r : Request) → first (path_rows r) ≡ 0 → first (path_given r) ≡ 0
+pub path_given_lem : (r : Request) → first (path_rows r) ≡ None → first (path_given r) ≡ None
 unfolding path_rows path_given
-path_given_lem r e = (first-both (path_given r) _ tt e).0
+path_given_lem r e = (first-both (path_given r) _ e).0
 
 -- ---- the site
 pub record SiteRange (r : Request) : Type 0 where
   pub z10_given : size_of r.z10 ≤ 10000
   pub z15_given : size_of r.z15 ≤ 10000
 
-pub site_range : (r : Request) → first (site_given r) ≡ 0 → SiteRange r
+pub site_range : (r : Request) → first (site_given r) ≡ None → SiteRange r
 unfolding site_given
 site_range r e =
-    let c1 = clear _ _ e tt in
-    let c2 = clear _ _ c1.1 tt in
+    let c1 = clear _ _ e in
+    let c2 = clear _ _ c1.1 in
     record {
       z10_given = allowed-size r.z10 0 10000 (not-false _ c1.0);
       z15_given = allowed-size r.z15 0 10000 (not-false _ c2.0);

@@ -20,17 +20,17 @@ use Rattle.request.specs.Styles.{top_magnitude}
 use Rattle.request.specs.Origins.{each, as_inferred}
 use Rattle.request.proofs.OriginLaws.{value-inferred, size-inferred, none-marked, unmarked-each}
 use Rattle.refusals.specs.Order.{first}
-use Rattle.refusals.specs.Order as No
+use Rattle.std.specs.Prelude.{None, Result, Ok, Err}
+use Rattle.refusals.specs.declared.Refusal.{Refusal}
+use Rattle.refusals.specs.declared.Refusal.TheVariants as No
 use Rattle.refusals.proofs.Rows.{clear, nothing, skip, first-both}
-use Rattle.outcome.specs.declared.Completion.{Completion}
-use Rattle.outcome.specs.declared.Completion.TheVariants as C
 use Rattle.outcome.specs.Figures.{style, dip, width, zhyp, ztor, rrup, z25}
 use Rattle.outcome.specs.Refusals.{source_given, source_rows, above_rupture, path_given, too_short, too_far, path_rows, site_given, site_rows, refusal}
 use Rattle.outcome.specs.Answers.{completed, completion_of}
 use Rattle.outcome.specs.SentBack.{sent_back}
 use Rattle.outcome.proofs.FigureLaws.{six, given_stays, given_or_blank, not_estimated, within-back, allowed-back, figure-back, stays-back, not_blank_back}
 use Rattle.outcome.proofs.Ranges.{SourceRange, source_range, source_given_lem, top_range}
-use Rattle.outcome.proofs.ExactlyWhen.{path_numbered, Stages, stages, accepted-refusal, accepted_by}
+use Rattle.outcome.proofs.ExactlyWhen.{Stages, stages, accepted-refusal, accepted_by}
 use Rattle.outcome.proofs.EstimatesNear.{rrup-above, rrup-below}
 use Rattle.outcome.proofs.Staged.{marked_tells, unmarked, all-silent}
 use Rattle.outcome.proofs.TooFar.{not_longer}
@@ -80,7 +80,7 @@ module _ (r : Request) where
   unfolding above_rupture sent_back each completed rrup
   not_above = rw (not_blank_back r.rrup _)
 
-module _ (r : Request) (accepted : refusal r ≡ 0) where
+module _ (r : Request) (accepted : refusal r ≡ None) where
   at : Stages r
   at = stages r accepted
 
@@ -100,13 +100,13 @@ module _ (r : Request) (accepted : refusal r ≡ 0) where
   pub silent : SourceSilent
   unfolding source_given
   silent =
-      let c1 = clear _ _ (source_given_lem r at.source) tt in
-      let c2 = clear _ _ c1.1 tt in
-      let c3 = clear _ _ c2.1 tt in
-      let c4 = clear _ _ c3.1 tt in
-      let c5 = clear _ _ c4.1 tt in
-      let c6 = clear _ _ c5.1 tt in
-      let c7 = clear _ _ c6.1 tt in
+      let c1 = clear _ _ (source_given_lem r at.source) in
+      let c2 = clear _ _ c1.1 in
+      let c3 = clear _ _ c2.1 in
+      let c4 = clear _ _ c3.1 in
+      let c5 = clear _ _ c4.1 in
+      let c6 = clear _ _ c5.1 in
+      let c7 = clear _ _ c6.1 in
       record { rake = c1.0; m = c2.0; vs30 = c3.0; dip = c4.0; w = c5.0; zhyp = c6.0; ztor = c7.0 }
 
   m_within : not (within (as_inferred r.m) (pos 400) (top_magnitude (style (sent_back r)))) ≡ false
@@ -131,7 +131,7 @@ module _ (r : Request) (accepted : refusal r ≡ 0) where
   not_deep : ltb 15000 (size_of (ztor (sent_back r))) ≡ false
   not_deep = rw (ztor-back r, size-inferred (ztor r)) (le-ltb 15000 (size_of (ztor r)) (top_range r at.source))
 
-  source_back : first (source_rows (sent_back r)) ≡ 0
+  source_back : first (source_rows (sent_back r)) ≡ None
   unfolding source_rows source_given sent_back each completed
   source_back =
       skip _ _ _ (within-back r.rake (negsuc 179) (pos 180) silent.rake)
@@ -143,23 +143,23 @@ module _ (r : Request) (accepted : refusal r ≡ 0) where
       (skip _ _ _ ztor-allowed
       (skip _ _ _ not_deep nothing)))))))
 
-  path_rows_lem : (first (path_given r) ≡ 0) × (ltb 200000 (size_of (rrup r)) ≡ false) × (too_short r ≡ false) × (too_far r ≡ false)
+  path_rows_lem : (first (path_given r) ≡ None) × (ltb 200000 (size_of (rrup r)) ≡ false) × (too_short r ≡ false) × (too_far r ≡ false)
   unfolding path_rows
   path_rows_lem =
-      let t = first-both (path_given r) _ (path_numbered r) at.path in
-      let c11 = clear _ _ t.1 tt in
-      let c12 = clear _ _ c11.1 tt in
-      (t.0, c11.0, c12.0, (clear _ [] c12.1 tt).0)
+      let t = first-both (path_given r) _ at.path in
+      let c11 = clear _ _ t.1 in
+      let c12 = clear _ _ c11.1 in
+      (t.0, c11.0, c12.0, (clear _ [] c12.1).0)
 
   pub kept_path :
       (not (within r.rjb (pos 0) (pos 200000)) ≡ false) × (not (within r.azimuth (negsuc 179) (pos 180)) ≡ false)
       × (not (allowed r.rrup (pos 0) (pos 200000)) ≡ false)
   unfolding path_given
   kept_path =
-      let c8 = clear _ _ path_rows_lem.0 tt in
-      let c9 = clear _ _ c8.1 tt in
-      let c10 = clear _ _ c9.1 tt in
-      (c8.0, c9.0, (clear _ _ c10.1 tt).0)
+      let c8 = clear _ _ path_rows_lem.0 in
+      let c9 = clear _ _ c8.1 in
+      let c10 = clear _ _ c9.1 in
+      (c8.0, c9.0, (clear _ _ c10.1).0)
 
   pub rrup-high : size_of (rrup r) ≤ 200000
   rrup-high = ltb-false 200000 (size_of (rrup r)) path_rows_lem.1
@@ -228,7 +228,7 @@ module _ (r : Request) (accepted : refusal r ≡ 0) where
   not_far : ltb 200000 (size_of (rrup (sent_back r))) ≡ false
   not_far = rw (rrup-back r, size-inferred (rrup r)) (le-ltb 200000 (size_of (rrup r)) rrup-high)
 
-  path_back : first (path_rows (sent_back r)) ≡ 0
+  path_back : first (path_rows (sent_back r)) ≡ None
   unfolding path_rows path_given sent_back each completed
   path_back =
       skip _ _ _ (within-back r.rjb (pos 0) (pos 200000) kept_path.0)
@@ -244,10 +244,10 @@ module _ (r : Request) (accepted : refusal r ≡ 0) where
       × (not (allowed r.z25 (pos 0) (pos 10000)) ≡ false) × (size_of (z25 r) ≤ 10000)
   unfolding site_rows site_given
   site_rows_lem =
-      let c1 = clear _ _ at.site tt in
-      let c2 = clear _ _ c1.1 tt in
-      let c3 = clear _ _ c2.1 tt in
-      (c1.0, c2.0, c3.0, ltb-false 10000 (size_of (z25 r)) (clear _ [] c3.1 tt).0)
+      let c1 = clear _ _ at.site in
+      let c2 = clear _ _ c1.1 in
+      let c3 = clear _ _ c2.1 in
+      (c1.0, c2.0, c3.0, ltb-false 10000 (size_of (z25 r)) (clear _ [] c3.1).0)
 
   z25-allowed : not (allowed (as_inferred (z25 r)) (pos 0) (pos 10000)) ≡ false
   unfolding z25
@@ -256,7 +256,7 @@ module _ (r : Request) (accepted : refusal r ≡ 0) where
   shallow : ltb 10000 (size_of (z25 (sent_back r))) ≡ false
   shallow = rw (z25-back r, size-inferred (z25 r)) (le-ltb 10000 (size_of (z25 r)) site_rows_lem.3)
 
-  site_back : first (site_rows (sent_back r)) ≡ 0
+  site_back : first (site_rows (sent_back r)) ≡ None
   unfolding site_rows site_given sent_back each completed
   site_back =
       skip _ _ _ (allowed-back r.z10 (pos 0) (pos 10000) site_rows_lem.0)
@@ -264,23 +264,23 @@ module _ (r : Request) (accepted : refusal r ≡ 0) where
       (skip _ _ _ z25-allowed
       (skip _ _ _ shallow nothing)))
 
-  accepted-back : refusal (sent_back r) ≡ 0
+  accepted-back : refusal (sent_back r) ≡ None
   accepted-back = all-silent (sent_back r) (unmarked (sent_back r) (back-unmarked r)) source_back path_back site_back
 
 -- accepted, and answered by itself: by the numbers that were completed, none of them estimated
-pub sent_back_lem : (r : Request) → completion_of r ≡ C.Done (completed r) → completion_of (sent_back r) ≡ C.Done (sent_back r)
-sent_back_lem r e = accepted_by (sent_back r) (accepted-back r (accepted-refusal r e)) ∙ ap C.Done (figures_back r)
+pub sent_back_lem : (r : Request) → completion_of r ≡ Ok (completed r) → completion_of (sent_back r) ≡ Ok (sent_back r)
+sent_back_lem r e = accepted_by (sent_back r) (accepted-back r (accepted-refusal r e)) ∙ ap Ok (figures_back r)
 
 -- what is made of an answer, and is the same whatever we estimated, is the same for what is sent back
 pub sent_back_unread :
-    {A : Type 0} (f : Completion → A) → ((c : Request) → f (C.Done (each as_inferred c)) ≡ f (C.Done c))
-    → (r : Request) → completion_of r ≡ C.Done (completed r) → f (completion_of (sent_back r)) ≡ f (completion_of r)
+    {A : Type 0} (f : Result Request Refusal → A) → ((c : Request) → f (Ok (each as_inferred c)) ≡ f (Ok c))
+    → (r : Request) → completion_of r ≡ Ok (completed r) → f (completion_of (sent_back r)) ≡ f (completion_of r)
 unfolding sent_back
 sent_back_unread f unread r e = ap f (sent_back_lem r e) ∙ unread (completed r) ∙ sym (ap f e)
 
 -- ---- as it stands
-pub returned_refused : (r : Request) → marked (completed r) ≡ true → completion_of (completed r) ≡ C.Refused No.marked
-returned_refused r t = sym (marked_tells (completed r) t)
+pub returned_refused : (r : Request) → marked (completed r) ≡ true → completion_of (completed r) ≡ Err No.Marked
+returned_refused r t = marked_tells (completed r) t
 
 module _ (r : Request) where
   is-dip : is_estimated (dip r) ≡ false → dip r ≡ r.dip

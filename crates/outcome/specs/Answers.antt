@@ -1,10 +1,10 @@
--- The answer to a request, stage by stage and whole: the completed figures where no row of `Refusals` holds, else the number of the
+-- The answer to a request, stage by stage and whole: the completed figures where no row of `Refusals` holds, else the refusal of the
 -- first that does. Definitions only.
-use Rattle.std.specs.Prelude.{ℕ, zero, suc}
+use Rattle.std.specs.Prelude.{Result, Ok, Err}
 use Rattle.request.specs.declared.Field.TheVariants.{Blank}
 use Rattle.request.specs.declared.Request.{Request}
-use Rattle.outcome.specs.declared.Completion.{Completion}
-use Rattle.outcome.specs.declared.Completion.TheVariants as C
+use Rattle.refusals.specs.declared.Refusal.{Refusal}
+use Rattle.refusals.specs.Order.{unless}
 use Rattle.outcome.specs.Figures.{dip, width, zhyp, ztor, rrup, z25}
 use Rattle.outcome.specs.Refusals.{refusal}
 
@@ -28,23 +28,14 @@ completed r =
       z25 = z25 r;
     }
 
-unfoldable pub answer : ℕ → Request → Completion
-unfolding completed
-answer zero r = C.Done (completed r)
-answer (suc n) r = C.Refused (suc n)
+unfoldable pub completion_of : Request → Result Request Refusal
+unfolding completed refusal
+completion_of r = unless (refusal r) (completed r)
 
-unfoldable pub completion_of : Request → Completion
-unfolding answer refusal
-completion_of r = answer (refusal r) r
-
--- ---- what an answer says in document 01's terms: its number, 0 for none, and its figures, none beside a refusal
-abbrev pub number_of : Completion → ℕ
-number_of (C.Done c) = 0
-number_of (C.Refused n) = n
-
-unfoldable pub figures_of : Completion → Request
-figures_of (C.Done c) = c
-figures_of (C.Refused n) =
+-- ---- what an answer says in document 01's terms: its figures, none beside a refusal
+unfoldable pub figures_of : Result Request Refusal → Request
+figures_of (Ok c) = c
+figures_of (Err n) =
     record {
       m = Blank;
       rake = Blank;

@@ -1,9 +1,10 @@
 -- An answer whose given figures no longer say which were measured and which inferred. Definitions only.
+use Rattle.std.specs.Prelude.{Result, Ok, Err}
+use Rattle.request.specs.declared.Request.{Request}
 use Rattle.request.specs.Origins.{forget}
-use Rattle.outcome.specs.declared.Completion.{Completion}
-use Rattle.outcome.specs.declared.Completion.TheVariants as C
+use Rattle.refusals.specs.declared.Refusal.{Refusal}
 
-unfoldable pub forgotten : Completion → Completion
+unfoldable pub forgotten : Result Request Refusal → Result Request Refusal
 unfolding forget
-forgotten (C.Done c) = C.Done (forget c)
-forgotten (C.Refused n) = C.Refused n
+forgotten (Ok c) = Ok (forget c)
+forgotten (Err n) = Err n

@@ -1,8 +1,9 @@
--- The table of a request's refusals, in the order tested: a row is a refusal's number and whether its condition holds. A number stands
+-- The table of a request's refusals, in the order tested: a row is a refusal and whether its condition holds. A refusal stands
 -- in several rows where it reads several figures, or a given one and a completed one. Definitions only.
-use Rattle.std.specs.Prelude.{ℕ, ◌+◌, ◌-◌, ◌*◌, Bool, not, ◌&&◌, [], ◌∷◌, ◌++◌, leb, ltb, pos, negsuc}
+use Rattle.std.specs.Prelude.{ℕ, Option, ◌+◌, ◌-◌, ◌*◌, Bool, not, ◌&&◌, [], ◌∷◌, ◌++◌, leb, ltb, pos, negsuc}
 use Rattle.refusals.specs.Order.{Rows, first}
-use Rattle.refusals.specs.Order as No
+use Rattle.refusals.specs.declared.Refusal.{Refusal}
+use Rattle.refusals.specs.declared.Refusal.TheVariants as No
 use Rattle.request.specs.declared.Request.{Request}
 use Rattle.request.specs.Fields.{is_given, is_blank, size_of, within, allowed, marked}
 use Rattle.request.specs.Styles.{top_magnitude}
@@ -12,23 +13,23 @@ use Rattle.outcome.specs.Figures.{style, dip, width, ztor, rrup, z25}
 -- a figure is already marked as estimated by us
 unfoldable pub marked_rows : Request → Rows
 unfolding marked
-marked_rows r = (No.marked, marked r) ∷ []
+marked_rows r = (No.Marked, marked r) ∷ []
 
 -- ---- the source: the rows that read given figures, then those that read completed ones
 unfoldable pub source_given : Request → Rows
 unfolding within allowed top_magnitude style
 source_given r =
-    (No.rake, not (within r.rake (negsuc 179) (pos 180)))
-    ∷ (No.magnitude, not (within r.m (pos 400) (top_magnitude (style r))))
-    ∷ (No.vs30, not (within r.vs30 (pos 150) (pos 1500)))
-    ∷ (No.dip, not (allowed r.dip (pos 15) (pos 90)))
-    ∷ (No.width, not (allowed r.w (pos 1) (pos 100000)))
-    ∷ (No.hypocentre, not (allowed r.zhyp (pos 0) (pos 30000)))
-    ∷ (No.top, not (allowed r.ztor (pos 0) (pos 15000)))
+    (No.Rake, not (within r.rake (negsuc 179) (pos 180)))
+    ∷ (No.Magnitude, not (within r.m (pos 400) (top_magnitude (style r))))
+    ∷ (No.Vs30, not (within r.vs30 (pos 150) (pos 1500)))
+    ∷ (No.Dip, not (allowed r.dip (pos 15) (pos 90)))
+    ∷ (No.Width, not (allowed r.w (pos 1) (pos 100000)))
+    ∷ (No.Hypocentre, not (allowed r.zhyp (pos 0) (pos 30000)))
+    ∷ (No.Top, not (allowed r.ztor (pos 0) (pos 15000)))
     ∷ []
 
 abbrev pub source_completed : Request → Rows
-source_completed r = (No.top, ltb 15000 (size_of (ztor r))) ∷ []
+source_completed r = (No.Top, ltb 15000 (size_of (ztor r))) ∷ []
 
 unfoldable pub source_rows : Request → Rows
 unfolding source_given ztor size_of
@@ -44,10 +45,10 @@ above_rupture r =
 unfoldable pub path_given : Request → Rows
 unfolding within allowed above_rupture
 path_given r =
-    (No.rjb, not (within r.rjb (pos 0) (pos 200000)))
-    ∷ (No.azimuth, not (within r.azimuth (negsuc 179) (pos 180)))
-    ∷ (No.above, above_rupture r)
-    ∷ (No.rrup, not (allowed r.rrup (pos 0) (pos 200000)))
+    (No.Rjb, not (within r.rjb (pos 0) (pos 200000)))
+    ∷ (No.Azimuth, not (within r.azimuth (negsuc 179) (pos 180)))
+    ∷ (No.Above, above_rupture r)
+    ∷ (No.Rrup, not (allowed r.rrup (pos 0) (pos 200000)))
     ∷ []
 
 -- a given RRUP is shorter than any way from the site to the top of the rupture
@@ -67,7 +68,7 @@ too_far r =
     && (leb 1 (size_of r.rrup) && ltb (size_of r.rjb * size_of r.rjb + deepest * deepest) (d * d))
 
 abbrev pub path_completed : Request → Rows
-path_completed r = (No.rrup, ltb 200000 (size_of (rrup r))) ∷ (No.too_short, too_short r) ∷ (No.too_far, too_far r) ∷ []
+path_completed r = (No.Rrup, ltb 200000 (size_of (rrup r))) ∷ (No.TooShort, too_short r) ∷ (No.TooFar, too_far r) ∷ []
 
 unfoldable pub path_rows : Request → Rows
 unfolding path_given too_short too_far rrup size_of
@@ -77,13 +78,13 @@ path_rows r = path_given r ++ path_completed r
 unfoldable pub site_given : Request → Rows
 unfolding allowed
 site_given r =
-    (No.basin, not (allowed r.z10 (pos 0) (pos 10000)))
-    ∷ (No.basin, not (allowed r.z15 (pos 0) (pos 10000)))
-    ∷ (No.basin, not (allowed r.z25 (pos 0) (pos 10000)))
+    (No.Basin, not (allowed r.z10 (pos 0) (pos 10000)))
+    ∷ (No.Basin, not (allowed r.z15 (pos 0) (pos 10000)))
+    ∷ (No.Basin, not (allowed r.z25 (pos 0) (pos 10000)))
     ∷ []
 
 abbrev pub site_completed : Request → Rows
-site_completed r = (No.basin, ltb 10000 (size_of (z25 r))) ∷ []
+site_completed r = (No.Basin, ltb 10000 (size_of (z25 r))) ∷ []
 
 unfoldable pub site_rows : Request → Rows
 unfolding site_given z25 size_of
@@ -94,6 +95,6 @@ unfoldable pub rows : Request → Rows
 unfolding marked_rows source_rows path_rows site_rows
 rows r = marked_rows r ++ (source_rows r ++ (path_rows r ++ site_rows r))
 
-unfoldable pub refusal : Request → ℕ
+unfoldable pub refusal : Request → Option Refusal
 unfolding first rows
 refusal r = first (rows r)

@@ -3,10 +3,11 @@
 // are is in specs/, and proofs/ says what holds of them; the stages' crates and completion reckon them.
 #![tactic(auto)]
 
-ghost use Rattle.std.specs.Prelude.{◌≡◌, ◌<◌};
+ghost use Rattle.std.specs.Prelude.{◌≡◌, ◌<◌, None};
+ghost use Rattle.refusals.specs.Order.{first};
 ghost use Rattle.outcome.specs.Figures.{estimated};
-ghost use Rattle.outcome.specs.Answers.{number_of};
-ghost use Rattle.outcome.specs.Stages.{source_number, figure_number};
+ghost use Rattle.outcome.specs.Refusals.{source_rows};
+ghost use Rattle.outcome.specs.Stages.{source_figures};
 
 use request::{Field, Request};
 
@@ -27,54 +28,11 @@ pub struct Source {
     pub ztor: Field,
 }
 
-// The answer of the source's stage: its figures, or the refusal's number.
+// A request whose source is not refused, with the completed figures of it.
 #[derive(Clone, Copy)]
-pub enum SourceAnswer {
-    Known(Source),
-    Refused(u32),
-}
-
-// Its number, 0 for none.
-pub fn source_number(a: SourceAnswer) -> u32
-    ensures { result ≡ source_number a }
-{
-    match a {
-        SourceAnswer::Known(_) => 0,
-        SourceAnswer::Refused(n) => n,
-    }
-}
-
-// The answer of the path's stage and of the site's: one figure, or the refusal's number.
-#[derive(Clone, Copy)]
-pub enum FigureAnswer {
-    Known(Field),
-    Refused(u32),
-}
-
-// Its number, 0 for none.
-pub fn figure_number(a: FigureAnswer) -> u32
-    ensures { result ≡ figure_number a }
-{
-    match a {
-        FigureAnswer::Known(_) => 0,
-        FigureAnswer::Refused(n) => n,
-    }
-}
-
-// The whole answer: the request with its blank figures estimated, each field saying where its figure came
-// from, or the refusal's number.
-#[derive(Clone, Copy)]
-pub enum Completion {
-    Done(Request),
-    Refused(u32),
-}
-
-// Its number, 0 for none.
-pub fn number_of(c: Completion) -> u32
-    ensures { result ≡ number_of c }
-{
-    match c {
-        Completion::Done(_) => 0,
-        Completion::Refused(n) => n,
-    }
+pub struct Sourced {
+    pub request: Request,
+    pub figures: Source,
+    pub ghost completed: { figures ≡ source_figures request },
+    pub ghost silent: { first (source_rows request) ≡ None },
 }

@@ -1,21 +1,23 @@
--- How many of the tabulated periods a period reaches, counted one by one. Assumes nothing.
-use Prim.Native.Nat.{ℕ, suc, ◌+◌, ◌-◌, ◌≤◌, ◌<◌}
-use mathlib.Core.Path.{◌≡◌, sym, ap, ◌∙◌}
-use mathlib.Core.Bool.{true, false}
+-- How many of the tabulated periods a period reaches: those before the first that is longer. Assumes nothing.
+use Prim.Native.Nat.{ℕ, zero, suc, ◌+◌, ◌-◌, ◌≤◌, ◌<◌}
+use mathlib.Core.Path.{◌≡◌, refl, sym, ap, subst, ◌∙◌}
+use mathlib.Core.Bool.{Bool, true, false, not, cond}
 use mathlib.Core.List.{List}
 use native.Mathlib.Omega.{arith}
-use lib.Dec.{leb}
+use lib.Dec.{leb, ltb}
 use lib.ListN.{length, get_or, drop}
 use lib.Seq.{drop-cons}
-use borrow.Author.Tests.{le-leb, lt-leb}
-use Rattle.tables.specs.Tables.{periods}
+use borrow.Author.Tests.{le-leb, lt-leb, ltb-true, ltb-false}
+use Rattle.std.proofs.Common.{Option, Some, None}
+use Rattle.std.specs.Option.{unwrap_or}
+use Rattle.std.specs.List.{position_or_len, range_with_len}
+use Rattle.std.proofs.lemmas.List.Sums.{prefix_len-le-length}
+use Rattle.tables.specs.Tables.{periods, period_at}
 use Rattle.between.specs.Periods.{reached, last_up_to}
 
--- the first n are reached, and of those behind them as many as are
-pub record Reaching (t n : ℕ) : Type 0 where
-  pub some : 1 ≤ n
-  pub most : n ≤ 21
-  pub is : reached periods t ≡ n + reached (drop n periods) t
+-- whether the period of a measure is longer than t
+abbrev pub longer : ℕ → ℕ → Bool
+longer t k = ltb t (period_at k)
 
 -- from place n on, by the period that stands there
 step :
@@ -24,43 +26,43 @@ step :
 unfolding reached
 step ps n t h = ap (λ (l : List ℕ). reached l t) (drop-cons ps n 0 h)
 
-one_more : (ps : List ℕ) (n t : ℕ) → n < length ps → get_or ps n 0 ≤ t → reached (drop n ps) t ≡ suc (reached (drop (suc n) ps) t)
-one_more ps n t h k = step ps n t h ∙ (rw (le-leb (get_or ps n 0) t k))
-
-no_more : (ps : List ℕ) (n t : ℕ) → n < length ps → t < get_or ps n 0 → reached (drop n ps) t ≡ 0
-no_more ps n t h k = step ps n t h ∙ (rw (lt-leb (get_or ps n 0) t k))
-
-pub reaching_first : (t : ℕ) → 10 ≤ t → Reaching t 1
-reaching_first t h = record { some = omega arith; most = omega arith; is = one_more periods 0 t (omega arith) h ∙ sym (plus (reached (drop 1 periods) t)) }
+-- of the m periods from place n on
+reached_is : (t m n : ℕ) → n + m ≡ 21 → reached (drop n periods) t ≡ position_or_len (longer t) (range_with_len n m)
+unfolding reached
+reached_is t zero n e = let p : n ≡ 21 = omega arith in rw p refl
+reached_is t (suc m) n e =
+    let p : n + 1 ≡ suc n = omega arith in
+    by (longer t n) refl (subst (λ (k : ℕ). reached (drop k periods) t ≡ position_or_len (longer t) (range_with_len (n + 1) m)) p (reached_is t m (n + 1) (omega arith)))
   where
-    plus : (r : ℕ) → 1 + r ≡ suc r
-    plus r = omega arith
+    more : (r q : ℕ) → r ≡ q → suc r ≡ 1 + q
+    more r q f = omega arith
 
-pub reaching_next : (t n : ℕ) → n < 21 → get_or periods n 0 ≤ t → Reaching t n → Reaching t (n + 1)
-reaching_next t n h k r =
-    record {
-      some = omega arith;
-      most = omega arith;
-      is = next n (reached periods t) (reached (drop n periods) t) r.is (one_more periods n t h k);
-    }
-  where
-    next : (n a b : ℕ) → a ≡ n + b → b ≡ suc (reached (drop (suc n) periods) t) → a ≡ n + 1 + reached (drop (n + 1) periods) t
-    next n a b e f = let s : n + 1 ≡ suc n = omega arith in rw s (omega arith)
+    by :
+        (b : Bool) → longer t n ≡ b → reached (drop (suc n) periods) t ≡ position_or_len (longer t) (range_with_len (n + 1) m)
+        → reached (drop n periods) t ≡ position_or_len (longer t) (range_with_len n (suc m))
+    by true f rest = step periods n t (omega arith) ∙ rw (lt-leb (period_at n) t (ltb-true t (period_at n) f), f) refl
+    by false f rest = step periods n t (omega arith) ∙ rw (le-leb (period_at n) t (ltb-false t (period_at n) f), f) (more _ _ rest)
 
--- where the next is longer, or there is none
-pub reached-last : (t n : ℕ) → n < 21 → t < get_or periods n 0 → Reaching t n → n - 1 ≡ last_up_to t
+-- the first is reached, so that of the other 20 those are counted that are
+from_second : (t : ℕ) → 10 ≤ t → last_up_to t ≡ position_or_len (longer t) (range_with_len 1 20)
 unfolding last_up_to
-reached-last t n h k r = fin n (reached periods t) (reached (drop n periods) t) r.is (no_more periods n t h k)
+from_second t h = fin (reached periods t) (reached (drop 1 periods) t) (step periods 0 t (omega arith) ∙ rw (le-leb 10 t h) refl) ∙ reached_is t 20 1 refl
   where
-    fin : (n a b : ℕ) → a ≡ n + b → b ≡ 0 → n - 1 ≡ a - 1
-    fin n a b e f = omega arith
+    fin : (a b : ℕ) → a ≡ suc b → a - 1 ≡ b
+    fin a b e = omega arith
 
-pub reached-all : (t n : ℕ) → 21 ≤ n → Reaching t n → 20 ≡ last_up_to t
-unfolding last_up_to reached
-reached-all t n h r = fin n (reached periods t) (reached (drop n periods) t) (omega (arith, r.most)) r.is (past n (omega (arith, r.most)))
+-- what `position` answers, with the last where it finds none
+or_last : (p : ℕ) (r : Option ℕ) → r ≡ cond (ltb p 20) (Some p) None → p ≤ 20 → unwrap_or r 20 ≡ p
+or_last p r e h = by (ltb p 20) refl
   where
-    past : (n : ℕ) → n ≡ 21 → reached (drop n periods) t ≡ 0
-    past n e = rw e
+    by : (b : Bool) → ltb p 20 ≡ b → unwrap_or r 20 ≡ p
+    by true f = rw (e, f) refl
+    by false f = let l : 20 ≤ p = ltb-false p 20 f in rw (e, f) (omega arith)
 
-    fin : (n a b : ℕ) → n ≡ 21 → a ≡ n + b → b ≡ 0 → 20 ≡ a - 1
-    fin n a b e f g = omega arith
+pub first-longer :
+    (t : ℕ) (r : Option ℕ) → 10 ≤ t
+    → r ≡ cond (ltb (position_or_len (longer t) (range_with_len 1 20)) 20) (Some (position_or_len (longer t) (range_with_len 1 20))) None
+    → unwrap_or r 20 ≡ last_up_to t
+first-longer t r h e =
+    or_last (position_or_len (longer t) (range_with_len 1 20)) r e (prefix_len-le-length (λ (k : ℕ). not (longer t k)) (range_with_len 1 20))
+    ∙ sym (from_second t h)

@@ -1,26 +1,25 @@
 -- The completed figures of an accepted request lie in the ranges of which the model's laws speak. Assumes nothing.
-use mathlib.Core.Path.{◌≡◌, sym, ap, subst, ◌∙◌}
+use mathlib.Core.Path.{◌≡◌, sym, subst}
+use Rattle.std.specs.Prelude.{None, Ok}
 use Rattle.request.specs.declared.Request.{Request}
-use Rattle.outcome.specs.declared.Completion.TheVariants as C
 use Rattle.outcome.specs.Refusals.{refusal}
-use Rattle.outcome.specs.Answers.{completed, completion_of, number_of}
-use Rattle.outcome.proofs.ExactlyWhen.{stages, number_is, accepted_by}
+use Rattle.outcome.specs.Answers.{completed, completion_of}
+use Rattle.outcome.proofs.ExactlyWhen.{stages, answered_with}
 use Rattle.outcome.proofs.Ranges.{source_range, source_given_lem, top_range, path_range, path_given_lem}
 use Rattle.outcome.proofs.SentBackWhole.{rrup-high, long-enough, site_rows_lem}
 use Rattle.model.specs.Accuracy.{InRange}
 use Rattle.prediction.specs.Spectra.{scenario_of}
 
+pub accepted : (r c : Request) → completion_of r ≡ Ok c → refusal r ≡ None
+unfolding completion_of
+accepted r c e = (answered_with (refusal r) (completed r) c e).0
+
 -- the figures of an accepted request
-done : (c d : Request) → C.Done c ≡ C.Done d → c ≡ d
-done c d e = cc
+pub completed-is : (r c : Request) → completion_of r ≡ Ok c → completed r ≡ c
+unfolding completion_of
+completed-is r c e = sym (answered_with (refusal r) (completed r) c e).1
 
-pub accepted : (r : Request) (c : Request) → completion_of r ≡ C.Done c → refusal r ≡ 0
-accepted r c e = sym (number_is r) ∙ ap number_of e
-
-pub completed-is : (r : Request) (c : Request) → completion_of r ≡ C.Done c → completed r ≡ c
-completed-is r c e = done (completed r) c (sym (accepted_by r (accepted r c e)) ∙ e)
-
-pub in_range_by : (r : Request) → refusal r ≡ 0 → InRange (scenario_of (completed r))
+pub in_range_by : (r : Request) → refusal r ≡ None → InRange (scenario_of (completed r))
 unfolding scenario_of completed
 in_range_by r e =
     let t = stages r e in
@@ -39,5 +38,5 @@ in_range_by r e =
       apart = long-enough r e;
     }
 
-pub in_range : (r : Request) (c : Request) → completion_of r ≡ C.Done c → InRange (scenario_of c)
+pub in_range : (r c : Request) → completion_of r ≡ Ok c → InRange (scenario_of c)
 in_range r c e = subst (λ (d : Request). InRange (scenario_of d)) (completed-is r c e) (in_range_by r (accepted r c e))

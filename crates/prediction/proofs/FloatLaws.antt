@@ -1,26 +1,27 @@
 -- A whole number of at most 2^53 is an f64, so that the rows for the drawing program are the spectrum's own and nothing is lost.
 -- Assumes nothing.
 use Prim.Native.Nat.{ℕ, zero, suc, ◌≤◌, ◌<◌}
-use mathlib.Core.Path.{◌≡◌, refl, sym, subst, ◌∙◌}
+use mathlib.Core.Path.{◌≡◌, refl, sym, ap, ◌∙◌}
 use mathlib.Core.Bool.{true, false}
 use mathlib.Core.List.{List, [], ◌∷◌, map}
 use native.Mathlib.Omega.{arith}
 use lib.Dec.{T, le→leb, lt→ltb}
 use lib.IntN.{ℤ, pos, negsuc, nat_abs}
 use lib.ListN.{length, get_or, length-map}
-use lib.Seq.{ext_get_or}
 use lib.Ieee.{binary64, in_float, of_int}
 use lib.Ieee.Back.{round_whole}
+use Rattle.std.specs.Prelude.{Result, Ok, Err}
+use Rattle.refusals.specs.declared.Refusal.{Refusal}
 use Rattle.request.specs.declared.Request.{Request}
-use Rattle.outcome.specs.declared.Completion.TheVariants as C
 use Rattle.outcome.specs.Answers.{completion_of}
 use Rattle.model.specs.declared.Row.{Row}
 use Rattle.model.specs.Rows.{no_row}
 use Rattle.prediction.specs.declared.floats.FloatRow.{FloatRow}
-use Rattle.prediction.specs.Spectra.{spectrum_of}
+use Rattle.prediction.specs.Spectra.{spectrum_of, rows_in}
 use Rattle.prediction.specs.Sizes.{Small}
 use Rattle.prediction.specs.Floats.{Is, Same, float, floats_of, no_floats, float_spectrum_of}
-use Rattle.prediction.proofs.DemandThree.{twenty_four, rows-small, refused-rows}
+use Rattle.prediction.proofs.RowLaws.{told_rows, told_refused}
+use Rattle.prediction.proofs.DemandThree.{accepted_count, rows-small}
 
 -- ---- one number
 pub whole_in_float : (z : ℤ) → nat_abs z ≤ 9007199254740992 → T (in_float binary64 z)
@@ -47,34 +48,37 @@ row_same r s =
     }
 
 -- ---- the rows
+-- those of the spectrum
+float_rows :
+    (r : Request) (rows : List FloatRow) → float_spectrum_of r ≡ Ok rows
+    → (whole : List Row) × (spectrum_of r ≡ Ok whole) × (rows ≡ map floats_of whole)
+unfolding float_spectrum_of
+float_rows r rows s = told_rows floats_of r rows s
+
+pub float-length : (r : Request) (rows : List FloatRow) → float_spectrum_of r ≡ Ok rows → length rows ≡ 24
+float-length r rows s = let f = float_rows r rows s in rw f.2 (length-map f.0 floats_of ∙ accepted_count r f.0 f.1)
+
 map_at : (rows : List Row) (k : ℕ) → k < length rows → get_or (map floats_of rows) k no_floats ≡ floats_of (get_or rows k no_row)
 map_at [] k h = absurd (omega arith)
 map_at (r ∷ rows) zero h = refl
 map_at (r ∷ rows) (suc k) h = map_at rows k (omega arith)
 
--- an array that is right at every index is the list
-pub floats_are :
-    (rows : List Row) (f : List FloatRow) → length rows ≡ 24 → length f ≡ 24
-    → ((k : ℕ) → k < 24 → get_or f k no_floats ≡ floats_of (get_or rows k no_row)) → f ≡ map floats_of rows
-floats_are rows f e l h =
-    ext_get_or no_floats f (map floats_of rows) (l ∙ sym (length-map rows floats_of ∙ e))
-    (λ i b. h i (omega (arith, l)) ∙ sym (map_at rows i (omega (arith, l, e))))
-
-pub float-length : (r : Request) → length (float_spectrum_of r).rows ≡ 24
-unfolding float_spectrum_of
-float-length r = length-map (spectrum_of r).rows floats_of ∙ twenty_four r
-
 pub float_at :
-    (r : Request) (k : ℕ) → k < 24 → get_or (float_spectrum_of r).rows k no_floats ≡ floats_of (get_or (spectrum_of r).rows k no_row)
-unfolding float_spectrum_of
-float_at r k h = map_at (spectrum_of r).rows k (omega (arith, twenty_four r))
+    (r : Request) (rows : List FloatRow) (k : ℕ) → float_spectrum_of r ≡ Ok rows → k < 24
+    → get_or rows k no_floats ≡ floats_of (get_or (rows_in (spectrum_of r)) k no_row)
+float_at r rows k s h =
+    let f = float_rows r rows s in
+    ap (λ (l : List FloatRow). get_or l k no_floats) f.2
+    ∙ map_at f.0 k (omega (arith, accepted_count r f.0 f.1))
+    ∙ ap (λ (a : Result (List Row) Refusal). floats_of (get_or (rows_in a) k no_row)) (sym f.1)
 
 -- every field of every row is the spectrum's whole number
 pub nothing_lost :
-    (r : Request) (k : ℕ) → k < 24 → Same (get_or (float_spectrum_of r).rows k no_floats) (get_or (spectrum_of r).rows k no_row)
-nothing_lost r k h = rw (float_at r k h) (row_same (get_or (spectrum_of r).rows k no_row) (rows-small r k h))
+    (r : Request) (rows : List FloatRow) (k : ℕ) → float_spectrum_of r ≡ Ok rows → k < 24
+    → Same (get_or rows k no_floats) (get_or (rows_in (spectrum_of r)) k no_row)
+nothing_lost r rows k s h = rw (float_at r rows k s h) (row_same (get_or (rows_in (spectrum_of r)) k no_row) (rows-small r k h))
 
--- of a refused request, zeros
-pub refused_zeros : (r : Request) (n k : ℕ) → completion_of r ≡ C.Refused n → k < 24 → Same (get_or (float_spectrum_of r).rows k no_floats) no_row
-refused_zeros r n k e h =
-    subst (λ (w : Row). Same (get_or (float_spectrum_of r).rows k no_floats) w) (refused-rows r n k e h) (nothing_lost r k h)
+-- a refused request has its refusal
+pub float_refused : (r : Request) (n : Refusal) → completion_of r ≡ Err n → float_spectrum_of r ≡ Err n
+unfolding float_spectrum_of
+float_refused r n e = told_refused floats_of r n e

@@ -1,3 +1,4 @@
+pub mod Numbers
 pub mod Completed
 pub mod RowLaws
 pub mod DemandThree

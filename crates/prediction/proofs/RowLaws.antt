@@ -1,28 +1,33 @@
--- The rows of a spectrum one by one, how large their figures are, and that 24 rows given at every index are the spectrum's. Assumes
--- nothing.
-use Prim.Native.Nat.{ℕ, zero, suc, ◌+◌, ◌<◌}
+-- The rows of a spectrum one by one, how large their figures are, and that what is told at every index is told of the spectrum's rows.
+-- Assumes nothing.
+use Prim.Native.Nat.{ℕ, zero, suc, ◌+◌, ◌≤◌, ◌<◌}
 use mathlib.Core.Path.{◌≡◌, refl, sym, ap, subst, ◌∙◌}
+use mathlib.Core.Bool.{Bool, true, false}
 use mathlib.Core.List.{List, map}
 use native.Mathlib.Omega.{arith}
-use lib.Dec.{lit≤}
+use lib.Dec.{ltb, lit≤, lit<}
+use lib.IntN.{ℤ, pos}
 use lib.ListN.{length, get_or, length-map, get_or-map}
 use lib.Seq.{ext_get_or}
+use Rattle.std.specs.Prelude.{Result, Ok, Err}
+use Rattle.std.proofs.lemmas.List.{map-id}
+use Rattle.exact.specs.Near.{up}
+use Rattle.exact.specs.Series.{exp_terms}
+use Rattle.fixed.specs.Fixed.{exp_unit, exp_shifted, exp_fixed}
+use Rattle.fixed.proofs.Growing.{exp_fixed_mono}
+use Rattle.refusals.specs.declared.Refusal.{Refusal}
 use Rattle.request.specs.declared.Request.{Request}
-use Rattle.outcome.specs.declared.Completion.{Completion}
-use Rattle.outcome.specs.declared.Completion.TheVariants as C
-use Rattle.outcome.specs.Answers.{completion_of, number_of}
+use Rattle.outcome.specs.Answers.{completion_of}
 use Rattle.model.specs.declared.Scenario.{Scenario}
 use Rattle.model.specs.declared.Fine.{Fine}
 use Rattle.model.specs.declared.Row.{Row}
-use Rattle.model.specs.declared.Shown.{Shown}
 use Rattle.model.specs.Fixed.{fine_fixed, report, row_fixed, FineInRange}
-use Rattle.model.specs.Rows.{shown_of, no_row, no_shown}
-use Rattle.model.specs.Accuracy.{InRange, Exact, exact_of}
-use Rattle.model.specs.FineNear.{FineNear}
-use Rattle.model.proofs.Reported.{report-fits}
-use Rattle.model.proofs.Demand.{fine-near, fine_in_range}
+use Rattle.model.specs.Rows.{no_row}
+use Rattle.model.specs.Accuracy.{InRange}
+use Rattle.model.specs.Equations.{most}
+use Rattle.model.proofs.Demand.{fine_in_range}
 use Rattle.model.proofs.Sizes.{ln_size, sigma_size}
-use Rattle.prediction.specs.Spectra.{scenario_of, rows_from, rows_of, refused_with, spectrum_for, spectrum_of}
+use Rattle.prediction.specs.Spectra.{scenario_of, rows_from, rows_of, map_ok, spectrum_for, spectrum_of, spectrum_as}
 use Rattle.prediction.specs.Sizes.{Small}
 
 -- ---- the rows
@@ -56,54 +61,89 @@ row_is x k h = from_at 24 0 x k h ∙ ap (λ (i : ℕ). row_fixed i x) (same k)
 
 -- an array that is right at every index is the list
 pub rows_are :
-    (x : Scenario) (rows : List Row) → length rows ≡ 24 → ((k : ℕ) → k < 24 → get_or rows k no_row ≡ row_fixed k x) → rows ≡ rows_of x
-rows_are x rows e h =
-    ext_get_or no_row rows (rows_of x) (e ∙ sym (rows-length x))
-    (λ i l. let k : i < 24 = omega (arith, e) in h i k ∙ sym (row_is x i k))
+    {A : Type 0} (tell : Row → A) (x : Scenario) (told : List A) → length told ≡ 24
+    → ((k : ℕ) (d : A) → k < 24 → get_or told k d ≡ tell (row_fixed k x)) → told ≡ map tell (rows_of x)
+rows_are tell x told e h =
+    let d = tell no_row in
+    ext_get_or d told (map tell (rows_of x)) (e ∙ sym (length-map (rows_of x) tell ∙ rows-length x))
+    (λ i l.
+    let k : i < 24 = omega (arith, e) in
+    h i d k ∙ ap tell (sym (row_is x i k)) ∙ sym (get_or-map tell (rows_of x) i no_row))
 
 -- ---- a spectrum by the completion's case
-pub spectrum_done : (r : Request) (c : Request) → completion_of r ≡ C.Done c → (spectrum_of r).rows ≡ rows_of (scenario_of c)
+pub spectrum_done : (r c : Request) → completion_of r ≡ Ok c → spectrum_of r ≡ Ok (rows_of (scenario_of c))
 unfolding spectrum_of spectrum_for
 spectrum_done r c e = rw e
 
-pub spectrum_refused : (r : Request) (n : ℕ) → completion_of r ≡ C.Refused n → spectrum_of r ≡ refused_with n
+pub spectrum_refused : (r : Request) (n : Refusal) → completion_of r ≡ Err n → spectrum_of r ≡ Err n
 unfolding spectrum_of spectrum_for
 spectrum_refused r n e = rw e
 
 -- the two cases of any request
 pub by_completion :
-    {P : Type 0} (r : Request) → ((c : Request) → completion_of r ≡ C.Done c → P) → ((n : ℕ) → completion_of r ≡ C.Refused n → P) → P
+    {P : Type 0} (r : Request) → ((c : Request) → completion_of r ≡ Ok c → P) → ((n : Refusal) → completion_of r ≡ Err n → P) → P
 by_completion {P} r f g = go (completion_of r) refl
   where
-    go : (a : Completion) → completion_of r ≡ a → P
-    go (C.Done c) e = f c e
-    go (C.Refused n) e = g n e
+    go : (a : Result Request Refusal) → completion_of r ≡ a → P
+    go (Ok c) e = f c e
+    go (Err n) e = g n e
 
--- the number of a refused completion is the refusal's
-pub refused_by :
-    (r : Request) (a : Completion) (m n : ℕ) → a ≡ completion_of r → a ≡ C.Refused n → m ≡ number_of a → completion_of r ≡ C.Refused m
-refused_by r a m n p q h = sym p ∙ q ∙ ap C.Refused (sym (h ∙ ap number_of q))
+-- the figures of a request that has a spectrum
+pub spectrum_figures :
+    (r : Request) (rows : List Row) → spectrum_of r ≡ Ok rows
+    → (c : Request) × (completion_of r ≡ Ok c) × (rows ≡ rows_of (scenario_of c))
+spectrum_figures r rows s =
+    by_completion r (λ c e. let d = spectrum_done r c e in (c, e, cc)) (λ n e. let d = spectrum_refused r n e in absurd cc)
 
--- ---- what is shown
-pub shown_row : (rows : List Row) (k : ℕ) → get_or (map shown_of rows) k no_shown ≡ shown_of (get_or rows k no_row)
-unfolding shown_of
-shown_row rows k = get_or-map shown_of rows k no_row
+-- ---- what is told of it
+module _ {A : Type 0} (tell : Row → A) (r : Request) where
+  pub told_done : (c : Request) → completion_of r ≡ Ok c → spectrum_as tell r ≡ Ok (map tell (rows_of (scenario_of c)))
+  unfolding spectrum_as
+  told_done c e = rw (spectrum_done r c e)
 
--- an array that is right at every index is the list
-pub shown_are :
-    (x : Scenario) (rows : List Shown) → length rows ≡ 24 → ((k : ℕ) → k < 24 → get_or rows k no_shown ≡ shown_of (row_fixed k x))
-    → rows ≡ map shown_of (rows_of x)
-shown_are x rows e h =
-    ext_get_or no_shown rows (map shown_of (rows_of x)) (e ∙ sym (length-map (rows_of x) shown_of ∙ rows-length x))
-    (λ i l. let k : i < 24 = omega (arith, e) in h i k ∙ ap shown_of (sym (row_is x i k)) ∙ sym (shown_row (rows_of x) i))
+  pub told_refused : (n : Refusal) → completion_of r ≡ Err n → spectrum_as tell r ≡ Err n
+  unfolding spectrum_as
+  told_refused n e = rw (spectrum_refused r n e)
+
+  -- the rows of which it is told
+  pub told_rows : (told : List A) → spectrum_as tell r ≡ Ok told → (rows : List Row) × (spectrum_of r ≡ Ok rows) × (told ≡ map tell rows)
+  unfolding spectrum_as
+  told_rows told s = go (spectrum_of r) refl s
+    where
+      go :
+          (a : Result (List Row) Refusal) → spectrum_of r ≡ a → map_ok (λ rows. map tell rows) a ≡ Ok told
+          → (rows : List Row) × (spectrum_of r ≡ Ok rows) × (told ≡ map tell rows)
+      go (Ok rows) e s = (rows, e, cc)
+      go (Err n) e s = absurd cc
+
+-- the rows themselves
+pub told_whole : (r : Request) → spectrum_as (λ w. w) r ≡ spectrum_of r
+unfolding spectrum_as
+told_whole r = go (spectrum_of r)
+  where
+    go : (s : Result (List Row) Refusal) → map_ok (λ rows. map (λ w. w) rows) s ≡ s
+    go (Ok rows) = ap Ok (map-id rows)
+    go (Err n) = refl
 
 -- ---- how large
-pub report-small : (e : Exact) (f : Fine) → FineNear e f → FineInRange f → Small (report f)
+-- the largest median
+top_median : exp_fixed (pos 13000000400) < 9007199254740992
+unfolding exp_fixed exp_shifted exp_unit exp_terms
+top_median = lit< tt
+
+median_small : (x : ℤ) → up x ≤ 13000000400 → most 1 (exp_fixed x) < 9007199254740992
+median_small x h = go (ltb 1 (exp_fixed x))
+  where
+    go : (t : Bool) → elim t [ true ↦ exp_fixed x | false ↦ 1 ] < 9007199254740992
+    go true = omega (arith, top_median, exp_fixed_mono x (pos 13000000400) (omega arith))
+    go false = lit< tt
+
+pub report_small : (f : Fine) → FineInRange f → Small (report f)
 unfolding report
-report-small e f n r =
+report_small f r =
     record {
       ln = ln_size f.ln r.ln_low r.ln_high;
-      median = report-fits e f n;
+      median = median_small f.ln r.ln_high;
       intra = sigma_size f.intra r.intra-high;
       inter = omega (arith, r.t_high);
       total = sigma_size f.total r.total-high;
@@ -112,7 +152,7 @@ report-small e f n r =
 
 pub fixed_small : (i : ℕ) (x : Scenario) → i < 24 → InRange x → Small (row_fixed i x)
 unfolding row_fixed
-fixed_small i x h r = report-small (exact_of i x) (fine_fixed i x) (fine-near i x h r) (fine_in_range i x h r)
+fixed_small i x h r = report_small (fine_fixed i x) (fine_in_range i x h r)
 
 pub zeros_small : Small no_row
 zeros_small =

@@ -1,13 +1,13 @@
 -- Rows as f64 for the drawing program, each field the whole number itself. Definitions only.
-use Rattle.std.specs.Prelude.{suc, true, false, map, ℤ, pos, negsuc, Float}
+use Rattle.std.specs.Prelude.{suc, true, false, List, ℤ, pos, negsuc, Float, Result}
 use Rattle.std.specs.Float.{nan, binary64}
 use Rattle.std.specs.Float.Ieee.{of_int}
 use Rattle.std.specs.Float.Ieee.Exact.{HasValue}
+use Rattle.refusals.specs.declared.Refusal.{Refusal}
 use Rattle.request.specs.declared.Request.{Request}
 use Rattle.model.specs.declared.Row.{Row}
 use Rattle.prediction.specs.declared.floats.FloatRow.{FloatRow}
-use Rattle.prediction.specs.declared.floats.FloatSpectrum.{FloatSpectrum}
-use Rattle.prediction.specs.Spectra.{spectrum_of}
+use Rattle.prediction.specs.Spectra.{spectrum_as}
 
 -- the float is finite, and is the whole number: nothing is lost
 abbrev pub Is : Float → ℤ → Type 0
@@ -42,6 +42,6 @@ floats_of r =
 abbrev pub no_floats : FloatRow
 no_floats = record { ln = nan; median = nan; intra = nan; inter = nan; total = nan; arbitrary = nan }
 
-unfoldable pub float_spectrum_of : Request → FloatSpectrum
-unfolding spectrum_of floats_of
-float_spectrum_of r = record { refusal = (spectrum_of r).refusal; rows = map floats_of (spectrum_of r).rows }
+unfoldable pub float_spectrum_of : Request → Result (List FloatRow) Refusal
+unfolding spectrum_as floats_of
+float_spectrum_of r = spectrum_as floats_of r

@@ -1,18 +1,16 @@
--- A request's spectrum: the 24 rows of its completed figures, or the refusal's number with zeros in all else. Definitions only.
-use Rattle.std.specs.Prelude.{ℕ, zero, suc, ◌+◌, List, [], ◌∷◌, map, replicate}
+-- A request's spectrum: the 24 rows of its completed figures, or the refusal of its completion. Definitions only.
+use Rattle.std.specs.Prelude.{ℕ, zero, suc, ◌+◌, List, [], ◌∷◌, map, replicate, Result, Ok, Err}
+use Rattle.refusals.specs.declared.Refusal.{Refusal}
 use Rattle.request.specs.declared.Request.{Request}
 use Rattle.request.specs.Fields.{value_of, size_of}
 use Rattle.request.specs.Styles.{style_of}
-use Rattle.outcome.specs.declared.Completion.{Completion}
-use Rattle.outcome.specs.declared.Completion.TheVariants as C
 use Rattle.outcome.specs.Answers.{completion_of}
 use Rattle.model.specs.declared.Scenario.{Scenario}
 use Rattle.model.specs.declared.Row.{Row}
+use Rattle.model.specs.declared.Shown.{Shown}
 use Rattle.tables.specs.Tables.{measures}
 use Rattle.model.specs.Fixed.{row_fixed}
 use Rattle.model.specs.Rows.{shown_of, no_row}
-use Rattle.prediction.specs.declared.Spectrum.{Spectrum}
-use Rattle.prediction.specs.declared.shown.ShownSpectrum.{ShownSpectrum}
 
 -- what the model reads of a completed request: numbers, whatever their origins
 unfoldable pub scenario_of : Request → Scenario
@@ -39,25 +37,36 @@ unfoldable pub rows_of : Scenario → List Row
 unfolding rows_from
 rows_of x = rows_from measures 0 x
 
--- zeros beside a refusal's number
-unfoldable pub refused_with : ℕ → Spectrum
-refused_with n = record { refusal = n; rows = replicate measures no_row }
+-- what is made of an answer; a refusal is handed on
+abbrev pub map_ok : {A B : Type 0} → (A → B) → Result A Refusal → Result B Refusal
+map_ok f (Ok a) = Ok (f a)
+map_ok f (Err n) = Err n
 
 -- by the completion's case
-unfoldable pub spectrum_for : Completion → Spectrum
-unfolding rows_of scenario_of refused_with
-spectrum_for (C.Done c) = record { refusal = 0; rows = rows_of (scenario_of c) }
-spectrum_for (C.Refused n) = refused_with n
+unfoldable pub spectrum_for : Result Request Refusal → Result (List Row) Refusal
+unfolding rows_of scenario_of
+spectrum_for a = map_ok (λ c. rows_of (scenario_of c)) a
 
-unfoldable pub spectrum_of : Request → Spectrum
+unfoldable pub spectrum_of : Request → Result (List Row) Refusal
 unfolding spectrum_for completion_of
 spectrum_of r = spectrum_for (completion_of r)
 
--- what a sheet shows of a spectrum
-unfoldable pub shown_spectrum : Spectrum → ShownSpectrum
-unfolding shown_of
-shown_spectrum s = record { refusal = s.refusal; rows = map shown_of s.rows }
+-- what is told of each row of it
+unfoldable pub spectrum_as : {A : Type 0} → (Row → A) → Request → Result (List A) Refusal
+unfolding spectrum_of
+spectrum_as tell r = map_ok (λ rows. map tell rows) (spectrum_of r)
 
-unfoldable pub shown_spectrum_of : Request → ShownSpectrum
-unfolding shown_spectrum spectrum_of
-shown_spectrum_of r = shown_spectrum (spectrum_of r)
+-- what a sheet shows of it
+unfoldable pub shown_spectrum_of : Request → Result (List Shown) Refusal
+unfolding spectrum_as shown_of
+shown_spectrum_of r = spectrum_as shown_of r
+
+-- the rows of a spectrum: a refusal has none
+abbrev pub rows_in : {A : Type 0} → Result (List A) Refusal → List A
+rows_in (Ok rows) = rows
+rows_in (Err n) = []
+
+-- in document 01's terms: 24 rows, of zeros beside a refusal
+unfoldable pub figures_in : Result (List Row) Refusal → List Row
+figures_in (Ok rows) = rows
+figures_in (Err n) = replicate measures no_row

@@ -1,17 +1,19 @@
 // The spectrum as f64 for the drawing program. Every figure is below 2^53, so that an f64 holds it
 // whole.
-ghost use Rattle.std.specs.Prelude.{◌≡◌, ℕ, ◌<◌, ◌≤◌, pos, nat_abs, length, get_or};
-ghost use Rattle.tables.specs.Tables.{measures};
-ghost use Rattle.model.specs.Rows.{no_row};
+ghost use Rattle.std.specs.Prelude.{◌≡◌, ◌≤◌, pos, nat_abs};
+ghost use Rattle.std.proofs.Common.{lit<};
 ghost use Rattle.prediction.specs.Sizes.{Small};
-ghost use Rattle.prediction.specs.Floats.{Is, Same, float, floats_of, no_floats, float_spectrum_of};
+ghost use Rattle.prediction.specs.Floats.{Is, Same, float, floats_of, float_spectrum_of};
 
-use crate::predict;
-use model::Row;
+use crate::predict_as;
+use model::{Fine, Row};
+use refusals::Refusal;
+use reports::Reported;
 use request::Request;
 use tables::MEASURES;
 
-// A row whose every field is the whole number as an f64.
+// A row whose every field is the whole number as an f64. As `Row` it has a type of its own, since there ln
+// alone is signed.
 #[derive(Clone, Copy)]
 pub struct FloatRow {
     pub ln: f64,
@@ -22,14 +24,7 @@ pub struct FloatRow {
     pub arbitrary: f64,
 }
 
-// The refusal's number, 0 for none, and a row for each measure.
-#[derive(Drop)]
-pub struct FloatSpectrum {
-    pub refusal: u32,
-    pub rows: [FloatRow; MEASURES],
-}
-
-// A whole number as the f64 that it is.
+// A whole number as the f64 that it is. A `From` of the library's is there for 32 bits alone.
 #[tactic(auto, using(crate::proofs::FloatLaws::float_is))]
 pub fn of_nat(n: u64) -> f64
     requires { n ≤ 9007199254740992 }
@@ -46,15 +41,14 @@ pub fn of_int(n: i64) -> f64
     n as f64
 }
 
-// One row.
+// One row. No `From`, which could not ask that the row is small.
 #[tactic(auto, using(crate::proofs::FloatLaws::row_same), unfolding(crate::specs::Floats::floats_of))]
 pub fn float_row(r: Row) -> FloatRow
     requires { Small r }
     ensures { (result ≡ floats_of r) × Same result r }
 {
-    let ln = r.ln;
     FloatRow {
-        ln: of_int(ln),
+        ln: of_int(r.ln),
         median: of_nat(r.median),
         intra: of_nat(r.intra),
         inter: of_nat(r.inter),
@@ -63,38 +57,21 @@ pub fn float_row(r: Row) -> FloatRow
     }
 }
 
-// All rows.
-fn float_rows(rows: [Row; MEASURES]) -> [FloatRow; MEASURES]
-    requires { (k : ℕ) → k < measures → Small (get_or rows k no_row) }
-    ensures { (length result ≡ measures) × ((k : ℕ) → k < measures → get_or result k no_floats ≡ floats_of (get_or rows k no_row)) }
-{
-    let none = FloatRow {
-        ln: 0.0,
-        median: 0.0,
-        intra: 0.0,
-        inter: 0.0,
-        total: 0.0,
-        arbitrary: 0.0,
-    };
-    let mut out = [none; MEASURES];
-    let mut k = 0usize;
-    while k < MEASURES {
-        let r = rows[k];
-        out[k] = float_row(r);
-        k += 1;
+// What is reported of a measure, as f64.
+impl Reported for FloatRow {
+    ghost told = { floats_of };
+
+    ghost fits = { lit< tt };
+
+    fn report(i: usize, f: Fine) -> Self {
+        float_row(Row::report(i, f))
     }
-    out
 }
 
-// Predicts all measures of any request; a refused one has zeros in all else.
-pub fn predict_floats(r: Request) -> FloatSpectrum
+// Predicts all measures of any request, each figure the whole number as an f64.
+#[tactic(auto, unfolding(crate::specs::Floats::float_spectrum_of))]
+pub fn predict_floats(r: Request) -> Result<[FloatRow; MEASURES], Refusal>
     ensures { result ≡ float_spectrum_of r }
 {
-    let s = predict(r);
-    let whole = s.rows;
-    let rows = float_rows(whole);
-    FloatSpectrum {
-        refusal: s.refusal,
-        rows: rows,
-    }
+    predict_as::<FloatRow>(r)
 }

@@ -1,88 +1,62 @@
 // A request predicted: completed, and the 24 measures of it reckoned; or the first refusal in
-// document 01's order, handed on from the completion with zeros in all else.
+// document 01's order, handed on from the completion.
 #![tactic(auto)]
 
 mod floats;
 mod measure;
-mod shown;
 
 ghost use Rattle.std.specs.Prelude.{◌≡◌};
-ghost use Rattle.prediction.specs.Spectra.{scenario_of, refused_with, spectrum_of};
+ghost use Rattle.prediction.specs.Spectra.{scenario_of, spectrum_of, spectrum_as, shown_spectrum_of};
 
-use completion::{Completion, complete, number_of};
-pub use floats::{FloatRow, FloatSpectrum, float_row, predict_floats};
-pub use measure::{OneMeasure, predict_measure};
-use model::{Row, Scenario};
-use reports::rows_of;
-use request::{Request, size_of, style_by_rake};
-pub use shown::{ShownSpectrum, predict_shown};
+use completion::complete;
+pub use floats::{FloatRow, float_row, predict_floats};
+pub use measure::{MedianAndSigma, predict_measure};
+use model::{Row, Scenario, Shown};
+use refusals::Refusal;
+use reports::{Reported, rows_of};
+use request::Request;
 use tables::MEASURES;
-
-// The refusal's number, 0 for none, and a row for each measure.
-#[derive(Drop)]
-pub struct Spectrum {
-    pub refusal: u32,
-    pub rows: [Row; MEASURES],
-}
 
 // The figures of a completed request that the model reads, whatever their origins.
 #[tactic(auto, unfolding(crate::specs::Spectra::scenario_of))]
 pub fn scenario_of(c: Request) -> Scenario
     ensures { result ≡ scenario_of c }
 {
-    let m = c.m;
-    let rake = c.rake;
-    let vs30 = c.vs30;
-    let dip = c.dip;
-    let ztor = c.ztor;
-    let rjb = c.rjb;
-    let rrup = c.rrup;
-    let z25 = c.z25;
     Scenario {
-        m: size_of(m),
-        style: style_by_rake(rake),
-        vs30: size_of(vs30),
-        dip: size_of(dip),
-        ztor: size_of(ztor),
-        rjb: size_of(rjb),
-        rrup: size_of(rrup),
-        z25: size_of(z25),
+        m: c.m.size(),
+        style: c.style(),
+        vs30: c.vs30.size(),
+        dip: c.dip.size(),
+        ztor: c.ztor.size(),
+        rjb: c.rjb.size(),
+        rrup: c.rrup.size(),
+        z25: c.z25.size(),
     }
 }
 
-// Zeros beside a refusal's number.
-#[tactic(auto, unfolding(crate::specs::Spectra::refused_with))]
-fn refused(n: u32) -> Spectrum
-    ensures { result ≡ refused_with n }
+// What is reported of all measures of any request. It asks for nothing: each of the thirteen fields may
+// hold any i64.
+#[tactic(auto, using(crate::proofs::Completed::in_range), unfolding(crate::specs::Spectra::spectrum_as, crate::specs::Spectra::spectrum_of, crate::specs::Spectra::spectrum_for))]
+fn predict_as<T: Reported>(r: Request) -> Result<[T; MEASURES], Refusal>
+    ensures { result ≡ spectrum_as T.told r }
 {
-    let none = Row {
-        ln: 0,
-        median: 0,
-        intra: 0,
-        inter: 0,
-        total: 0,
-        arbitrary: 0,
-    };
-    let rows = [none; MEASURES];
-    Spectrum {
-        refusal: n,
-        rows: rows,
-    }
+    let c = complete(r)?;
+    Ok(rows_of(scenario_of(c)))
 }
 
-// Predicts all measures of any request. It asks for nothing: each of the thirteen fields may hold any
-// i64.
-pub fn predict(r: Request) -> Spectrum
+// Predicts all measures of any request.
+#[tactic(auto, using(crate::proofs::RowLaws::told_whole))]
+pub fn predict(r: Request) -> Result<[Row; MEASURES], Refusal>
     ensures { result ≡ spectrum_of r }
 {
-    let c = complete(r);
-    let Completion::Done(f) = c else {
-        return refused(number_of(c));
-    };
-    let x = scenario_of(f);
-    let rows = rows_of(x);
-    Spectrum {
-        refusal: 0,
-        rows: rows,
-    }
+    predict_as::<Row>(r)
+}
+
+// Predicts what a sheet shows of all measures of any request: one sigma a measure, so that one root is
+// taken for it.
+#[tactic(auto, unfolding(crate::specs::Spectra::shown_spectrum_of))]
+pub fn predict_shown(r: Request) -> Result<[Shown; MEASURES], Refusal>
+    ensures { result ≡ shown_spectrum_of r }
+{
+    predict_as::<Shown>(r)
 }

@@ -4,33 +4,32 @@ ghost use Rattle.prediction.specs.Measures.{measure_of};
 
 use crate::floats::of_nat;
 use crate::scenario_of;
-use completion::{Completion, complete, number_of};
-use refusals::NO_MEASURE;
-use reports::shown_at;
+use completion::complete;
+use model::Shown;
+use refusals::Refusal;
+use reports::row_at;
 use request::Request;
 use tables::MEASURES;
 
-// The median and the sigma that a sheet shows, or the refusal's number.
-#[derive(Drop)]
-pub enum OneMeasure {
-    Value(f64, f64),
-    Refused(u32),
+// The median and the sigma that a sheet shows of a measure.
+#[derive(Clone, Copy)]
+pub struct MedianAndSigma {
+    pub median: f64,
+    pub sigma: f64,
 }
 
 // Predicts one measure of any request. It asks for nothing: the measure may be any number.
-pub fn predict_measure(r: Request, measure: u64) -> OneMeasure
+#[tactic(auto, using(crate::proofs::Completed::in_range, crate::proofs::MeasureLaws::measure_fixed), unfolding(crate::specs::Measures::shown_value))]
+pub fn predict_measure(r: Request, measure: u64) -> Result<MedianAndSigma, Refusal>
     ensures { result ≡ measure_of r measure }
 {
-    let c = complete(r);
-    let Completion::Done(f) = c else {
-        return OneMeasure::Refused(number_of(c));
-    };
+    let c = complete(r)?;
     if MEASURES as u64 <= measure {
-        return OneMeasure::Refused(NO_MEASURE);
+        return Err(Refusal::NoMeasure);
     }
-    let x = scenario_of(f);
-    let row = shown_at(measure as usize, x);
-    let median = row.median;
-    let sigma = row.sigma;
-    OneMeasure::Value(of_nat(median), of_nat(sigma))
+    let shown = row_at::<Shown>(measure as usize, scenario_of(c));
+    Ok(MedianAndSigma {
+        median: of_nat(shown.median),
+        sigma: of_nat(shown.sigma),
+    })
 }

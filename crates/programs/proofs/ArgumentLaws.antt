@@ -1,17 +1,13 @@
--- When two texts have the same bytes, and how large a status is. Assumes nothing.
-use Prim.Native.Nat.{ℕ, ◌≤◌}
+-- When two texts have the same bytes. Assumes nothing.
+use Prim.Native.Nat.{ℕ}
 use mathlib.Core.Path.{◌≡◌, refl}
 use mathlib.Core.Bool.{Bool, true, false, cond, ◌&&◌}
 use mathlib.Core.List.{List, [], ◌∷◌}
-use native.Mathlib.Omega.{arith}
 use borrow.Author.Tests.{eq-eqb, eqb-true}
 use lib.Dec.{eqb}
 use lib.Pointwise.{pointwise}
-use Rattle.programs.specs.declared.Asked.{Asked}
-use Rattle.programs.specs.declared.Asked.TheVariants as A
-use Rattle.programs.specs.Arguments.{same_text, EndsAs}
+use Rattle.programs.specs.Arguments.{same_text}
 
--- ---- texts
 same_self : (s : List ℕ) → same_text s s ≡ true
 unfolding same_text
 same_self [] = refl
@@ -50,9 +46,3 @@ same_pointwise (x ∷ xs) (y ∷ ys) = go (eqb x y) (same_pointwise xs ys)
     go : (t : Bool) → same_text xs ys ≡ pointwise eqb xs ys → cond t (same_text xs ys) false ≡ t && pointwise eqb xs ys
     go true e = e
     go false e = refl
-
--- ---- the status
-pub status_small : (a : Asked) {n : ℕ} → EndsAs a n → n ≤ 2
-status_small (A.List sheet) h = omega arith
-status_small A.Help h = omega arith
-status_small A.Misused h = omega arith

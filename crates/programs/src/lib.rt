@@ -3,18 +3,20 @@
 
 mod texts;
 
-ghost use Rattle.std.specs.Prelude.{◌≤◌, ◌≡◌, length};
-ghost use Rattle.programs.specs.Arguments.{word_of, sheet_of, asked_alone, period_asked, asked_with, asked_of, EndsAs};
+ghost use Rattle.std.specs.Prelude.{◌≤◌, ◌≡◌};
+ghost use Rattle.usage.specs.Statuses.{EndsAs};
+ghost use Rattle.programs.specs.Arguments.{word_of, sheet_of, asked_alone, period_asked, asked_with, asked_of};
 
 use answer::Sheet;
-use numerals::{Plain, plain_number};
-use std::env::FillError;
+use numerals::plain_number;
 use std::rt::Env;
+use usage::{Asked, Status, Texts, argument_count, read_argument};
 
 // One more than the arguments that any program takes, its own name counted.
 const MOST: usize = 4;
 
-// Which program it is.
+// Which program it is: the two differ in a sheet, a word and their texts, and run alike, so that a trait of them would
+// be no plainer.
 #[derive(Clone, Copy)]
 enum Program {
     Complete,
@@ -27,14 +29,6 @@ enum Word {
     Help,
     Period,
     Unknown,
-}
-
-// What the arguments ask for. Misused: nothing that the program does.
-#[derive(Clone, Copy)]
-enum Asked {
-    List(Sheet),
-    Help,
-    Misused,
 }
 
 // The word that an argument is.
@@ -50,58 +44,63 @@ fn word_of(s: &[u8]) -> Word
     Word::Unknown
 }
 
-// The sheet of a program that is asked for nothing else.
-fn sheet_of(program: Program) -> Sheet
-    ensures { result ≡ sheet_of program }
-{
-    match program {
-        Program::Complete => Sheet::Completion,
-        Program::Predict => Sheet::Prediction,
+impl Program {
+    // The sheet of a program that is asked for nothing else.
+    fn sheet(self) -> Sheet
+        ensures { result ≡ sheet_of self }
+    {
+        match self {
+            Program::Complete => Sheet::Completion,
+            Program::Predict => Sheet::Prediction,
+        }
+    }
+
+    // What it says of itself.
+    fn texts(self) -> Texts<'static> {
+        match self {
+            Program::Complete => texts::COMPLETE,
+            Program::Predict => texts::PREDICT,
+        }
     }
 }
 
 // What one argument alone asks for.
-fn asked_alone(word: Word) -> Asked
+fn asked_alone(word: Word) -> Asked<Sheet>
     ensures { result ≡ asked_alone word }
 {
     match word {
         Word::Help => Asked::Help,
-        Word::Period => Asked::Misused,
-        Word::Unknown => Asked::Misused,
+        Word::Period | Word::Unknown => Asked::Misused,
     }
 }
 
 // What a number behind the word for a period asks for.
-fn period_asked(number: Plain) -> Asked
+fn period_asked(number: Option<u64>) -> Asked<Sheet>
     ensures { result ≡ period_asked number }
 {
     match number {
-        Plain::Number(t) => Asked::List(Sheet::Period(t)),
-        Plain::Other => Asked::Misused,
+        Some(t) => Asked::Run(Sheet::Period(t)),
+        None => Asked::Misused,
     }
 }
 
 // What two arguments ask for: the predicting program's row at a period.
-fn asked_with(program: Program, word: Word, number: Plain) -> Asked
+fn asked_with(program: Program, word: Word, number: Option<u64>) -> Asked<Sheet>
     ensures { result ≡ asked_with program word number }
 {
-    match program {
-        Program::Complete => Asked::Misused,
-        Program::Predict => match word {
-            Word::Help => Asked::Misused,
-            Word::Period => period_asked(number),
-            Word::Unknown => Asked::Misused,
-        },
+    match (program, word) {
+        (Program::Predict, Word::Period) => period_asked(number),
+        _ => Asked::Misused,
     }
 }
 
 // What is asked of a program by so many arguments, its own name counted, of which these two follow it.
 #[tactic(auto, unfolding(crate::specs::Arguments::asked_of))]
-fn asked_of(program: Program, count: usize, first: Word, second: Plain) -> Asked
+fn asked_of(program: Program, count: usize, first: Word, second: Option<u64>) -> Asked<Sheet>
     ensures { result ≡ asked_of program count first second }
 {
     if count < 2 {
-        return Asked::List(sheet_of(program));
+        return Asked::Run(program.sheet());
     }
     if count < 3 {
         return asked_alone(first);
@@ -112,63 +111,33 @@ fn asked_of(program: Program, count: usize, first: Word, second: Plain) -> Asked
     Asked::Misused
 }
 
-// How many arguments there are, the program's own name counted, up to one more than any program takes.
-fn argument_count(rt: &impl Env) -> usize {
-    let mut word = [0u8; 1];
-    for i in 0..MOST {
-        if let Err(FillError::NotPresent) = rt.arg(i, &mut word) {
-            return i;
-        }
-    }
-    MOST
-}
-
-// The length of an argument, which goes to the start of a buffer: 0 where it is missing or does not fit.
-fn read_argument(rt: &impl Env, i: usize, word: &mut [u8]) -> usize
-    ensures { result ≤ length word.new }
-{
-    match rt.arg(i, word) {
-        Ok(n) => n,
-        Err(_) => 0,
-    }
-}
-
 // What the program was asked. An argument that is missing, empty or longer than any word or number that is
 // known has no bytes here.
-fn read_arguments(rt: &impl Env, program: Program) -> Asked {
+fn read_arguments(rt: &impl Env, program: Program) -> Asked<Sheet> {
     let mut word = [0u8; 64];
     let mut number = [0u8; 64];
-    let n = read_argument(rt, 1, &mut word);
-    let m = read_argument(rt, 2, &mut number);
-    let first = word_of(&word[..n]);
-    let second = plain_number(&number[..m]);
-    asked_of(program, argument_count(rt), first, second)
+    let first = word_of(read_argument(rt, 1, &mut word));
+    let second = plain_number(read_argument(rt, 2, &mut number));
+    asked_of(program, argument_count(rt, MOST), first, second)
 }
 
-// Does what is asked of a program, and returns the exit status.
-fn serve(rt: &(impl Print + Eprint + Input), asked: Asked, program: Program) -> u32
+// Does what is asked of a program, and returns how it ends.
+fn serve(rt: &(impl Print + Eprint + Input), program: Program, asked: Asked<Sheet>) -> Status
     ensures { EndsAs asked result }
 {
-    match asked {
-        Asked::List(sheet) => filter::run(rt, sheet),
-        Asked::Help => { if texts::put_help(rt, program) { 0 } else { 1 } }
-        Asked::Misused => {
-            texts::put_usage(rt, program);
-            2
-        }
-    }
+    usage::serve(rt, program.texts(), asked, |sheet| filter::run(rt, sheet))
 }
 
 // The completing program.
-pub fn xanhupive_program_complete(rt: &(impl Print + Eprint + Input + Env)) -> u32
+pub fn xanhupive_program_complete(rt: &(impl Print + Eprint + Input + Env)) -> u8
     ensures { result ≤ 2 }
 {
-    serve(rt, read_arguments(rt, Program::Complete), Program::Complete)
+    serve(rt, Program::Complete, read_arguments(rt, Program::Complete)).into()
 }
 
 // The predicting program.
-pub fn xanhupive_program_predict(rt: &(impl Print + Eprint + Input + Env)) -> u32
+pub fn xanhupive_program_predict(rt: &(impl Print + Eprint + Input + Env)) -> u8
     ensures { result ≤ 2 }
 {
-    serve(rt, read_arguments(rt, Program::Predict), Program::Predict)
+    serve(rt, Program::Predict, read_arguments(rt, Program::Predict)).into()
 }

@@ -1,8 +1,7 @@
 -- The exponential's series as its loop runs: a term at a time, and never above its value at ln 2. Assumes nothing.
-use Prim.Native.Nat.{ℕ, suc, ◌+◌, ◌-◌, ◌*◌, ◌/◌, ◌≤◌, ◌<◌}
+use Prim.Native.Nat.{ℕ, suc, ◌+◌, ◌-◌, ◌*◌, ◌/◌, ◌≤◌}
 use mathlib.Core.Path.{◌≡◌, ap}
 use native.Mathlib.Nat.{le_refl, le_trans, add-le-add, mul-le-mul}
-use native.Mathlib.Omega.{arith}
 use lib.Dec.{lit≤}
 use Rattle.exact.specs.Series.{exp_terms}
 use Rattle.fixed.specs.Fixed.{exp_one, exp_two, exp_count, exp_unit}
@@ -10,9 +9,9 @@ use Rattle.exact.proofs.Quotients.{div-le}
 use Rattle.exact.proofs.ExpSeries.{exp_terms_mono}
 
 -- one term of the series
-pub exp_term : (S r t k n : ℕ) → 0 < n → exp_terms S r t k n ≡ t + exp_terms S r (t * r / S / k) (k + 1) (n - 1)
+pub exp_term : (S r t k n m : ℕ) → n ≡ suc m → exp_terms S r t k n ≡ t + exp_terms S r (t * r / S / k) (k + 1) m
 unfolding exp_terms
-exp_term S r t k n h = let e : n ≡ suc (n - 1) = omega arith in ap (λ (j : ℕ). exp_terms S r t k j) e
+exp_term S r t k n m e = ap (λ (j : ℕ). exp_terms S r t k j) e
 
 -- the third term, from which the loop starts
 pub third_mono : {r q : ℕ} → r ≤ q → r / 4 * r / (exp_one / 2) ≤ q / 4 * q / (exp_one / 2)

@@ -1,44 +1,14 @@
--- The logarithm's series as its loop runs: a term at a time, the terms passed and the series from here on being the whole, which for a
--- quotient from 1 to 2 is never above its value at z = 1/3. Assumes nothing.
-use Prim.Native.Nat.{ℕ, suc, ◌+◌, ◌-◌, ◌*◌, ◌/◌, ◌≤◌, ◌<◌}
-use mathlib.Core.Path.{◌≡◌, refl, sym, ap, ◌∙◌}
-use native.Mathlib.Nat.{le_trans, add-zero, mul-le-mul}
+-- The logarithm's series for a quotient from 1 to 2: it is never above its value at z = 1/3. Assumes nothing.
+use Prim.Native.Nat.{ℕ, ◌+◌, ◌-◌, ◌*◌, ◌/◌, ◌≤◌, ◌<◌}
+use mathlib.Core.Path.{◌≡◌, refl}
+use native.Mathlib.Nat.{le_trans, mul-le-mul}
 use native.Mathlib.Omega.{arith}
 use lib.Dec.{lit≤}
 use Rattle.exact.specs.Series.{ln_terms}
 use Rattle.fixed.specs.Fixed.{E12, ln_one, ln_count, narrow_count, ln_ratio, ln_narrow}
-use Rattle.exact.proofs.Quotients.{div-le, mul_small}
+use Rattle.exact.proofs.Quotients.{div-le}
 use Rattle.exact.proofs.LnSeries.{ln_terms_mono}
 use Rattle.fixed.proofs.LnNarrow.{ln_narrow-top}
-
--- one term of the series
-pub ln_term : (S w p d n : ℕ) → 0 < n → ln_terms S w p d n ≡ p / d + ln_terms S w (p * w / S) (d + 2) (n - 1)
-unfolding ln_terms
-ln_term S w p d n h = let e : n ≡ suc (n - 1) = omega arith in ap (λ (j : ℕ). ln_terms S w p d j) e
-
--- before each turn: N terms in all, of which n are left; z is the first power, and none is above m
-pub record Turn (S w z m N p d sum n : ℕ) : Type 0 where
-  pub p_le : p ≤ m
-  pub d_pos : 1 ≤ d
-  pub d_le : d + 2 * n ≤ 100
-  pub whole : sum + ln_terms S w p d n ≡ ln_terms S w z 1 N
-
-pub turn-next :
-    (S w z m N p d sum n : ℕ) → w ≤ S → 0 < n → Turn S w z m N p d sum n
-    → Turn S w z m N (p * w / S) (d + 2) (sum + p / d) (n - 1)
-turn-next S w z m N p d sum n h k v =
-    let next : p * w / S ≤ p = mul_small S p h in
-    let term = ln_term S w p d n k in
-    record { p_le = omega arith; d_pos = omega arith; d_le = omega arith; whole = omega arith }
-
--- the sum with the next term is at most the whole
-pub turn-sum : (S w z m N p d sum n : ℕ) → 0 < n → Turn S w z m N p d sum n → sum + p / d ≤ ln_terms S w z 1 N
-turn-sum S w z m N p d sum n k v = omega (arith, ln_term S w p d n k)
-
-pub turn-done : (S w z m N p d sum n : ℕ) → n ≡ 0 → Turn S w z m N p d sum n → sum ≡ ln_terms S w z 1 N
-unfolding ln_terms
-turn-done S w z m N p d sum n e v =
-    sym (add-zero sum) ∙ ap (λ (j : ℕ). sum + ln_terms S w p d j) (sym e) ∙ v.whole
 
 at-third : ln_terms ln_one (ln_one / 3 * (ln_one / 3) / ln_one) (ln_one / 3) 1 ln_count ≤ 3500000000
 unfolding ln_terms

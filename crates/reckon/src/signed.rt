@@ -17,9 +17,6 @@ pub fn round_div(a: i64, d: u64) -> i64
     ensures { result ≡ nearest a d }
 {
     let half = (d / 2) as i64;
-    let whole = d as i64;
-    if a < 0 {
-        return (a - half) / whole;
-    }
-    (a + half) / whole
+    let away = if a < 0 { a - half } else { a + half };
+    away / d as i64
 }

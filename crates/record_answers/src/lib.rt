@@ -2,38 +2,33 @@
 // bytes. Only the first bytes of the record are read, so that the rest of the file may follow.
 #![tactic(auto)]
 
+ghost use Rattle.kept.specs.declared.faults.Fault.TheVariants.{Refused};
 ghost use Rattle.kept.specs.Calls.{numbered};
-ghost use Rattle.site_files.specs.Given.{Given, Told};
-ghost use Rattle.record_answers.specs.RecordAnswers.{record_reply};
+ghost use Rattle.site_files.specs.Given.{GivenBy};
+ghost use Rattle.record_answers.specs.RecordAnswers.{record_reply, RecordTold};
 
 use answer::answer_request;
-use kept::{Asked, MISUSE, sheet_numbered};
-use lent::Wrote;
+use kept::{Fault, sheet_numbered};
 use records::{RECORD, record_in};
-use refusals::FILE_FIELD;
+use refusals::Refusal;
 use site_files::tell;
-use text::Line;
 
-// The answer: MISUSE for too few bytes of a record or a number that is no sheet's, else FILE_FIELD for a
-// field that is malformed, or TOO_LONG. Then no byte of `out` has changed.
-fn answer_in(bytes: &[u8], sheet: u64, out: &mut [u8]) -> Wrote
-    ensures { Given (record_reply (numbered sheet) bytes.now) out.old result out.new }
+// The answer: Misuse for too few bytes of a record or a number that is no sheet's, else FileField for a
+// field that is malformed, or TooLong. Then no byte of `out` has changed.
+fn answer_in(bytes: &[u8], sheet: u64, out: &mut [u8]) -> Result<usize, Fault>
+    ensures { GivenBy Refused (record_reply (numbered sheet) bytes.now) out.old result out.new }
 {
     if bytes.len() < RECORD {
-        return Wrote::Refused(MISUSE);
+        return Err(Fault::Misuse);
     }
-    let Asked::Sheet(s) = sheet_numbered(sheet) else {
-        return Wrote::Refused(MISUSE);
-    };
-    match record_in(&bytes[..RECORD]) {
-        Line::Is(r) => answer_request(s, r, out),
-        Line::Malformed => Wrote::Refused(FILE_FIELD),
-    }
+    let sheet = sheet_numbered(sheet).ok_or(Fault::Misuse)?;
+    let request = record_in(&bytes[..RECORD]).ok_or(Refusal::FileField)?;
+    Ok(answer_request(sheet, request, out)?)
 }
 
 // The same, told as the calls of C are: 0, with how many bytes were written, or the number.
 pub fn answer_record(bytes: &[u8], sheet: u64, out: &mut [u8], wrote: &mut u64) -> u32
-    ensures { Told (record_reply (numbered sheet) bytes.now) out.old wrote.old result out.new wrote.new }
+    ensures { RecordTold (record_reply (numbered sheet) bytes.now) out.old wrote.old result out.new wrote.new }
 {
-    tell(answer_in(bytes, sheet, out), wrote)
+    tell(answer_in(bytes, sheet, out).map_err(u32::from), wrote)
 }

@@ -7,9 +7,9 @@ use borrow.Author.Tests.{lt-ltb, le-ltb, leb-true, eqb-true}
 use lib.Dec.{ltb, leb, eqb}
 use lib.IntN.{ℤ, pos, negsuc}
 use lib.Signed.{le_z}
+use Rattle.std.specs.Prelude.{Some, None}
 use Rattle.request.specs.declared.Field.{Field}
 use Rattle.request.specs.declared.Field.TheVariants.{Measured, Inferred, Estimated, Blank}
-use Rattle.text.specs.declared.figures.Word.TheVariants as W
 use Rattle.fields.specs.Held.{held, holds}
 use Rattle.records.specs.Records.{lowest, word_of, signed_in, number_of, origin_of, given_as, field_in}
 
@@ -49,7 +49,7 @@ signed_back_lem n h = go (ltb n lowest) refl
 
 -- ---- a field
 -- written and read again
-pub field_back : (signed : Bool) (f : Field) → holds signed f ≡ true → field_in signed (number_of f) (origin_of f) ≡ W.Is f
+pub field_back : (signed : Bool) (f : Field) → holds signed f ≡ true → field_in signed (number_of f) (origin_of f) ≡ Some f
 unfolding holds number_of origin_of field_in given_as
 field_back signed (Measured v) h = rw (word_back signed v h, h)
 field_back signed (Inferred v) h = rw (word_back signed v h, h)
@@ -70,7 +70,7 @@ pub record Read (signed : Bool) (n o : ℕ) (f : Field) : Type 0 where
   pub origin : origin_of f ≡ o
 
 module _ (signed : Bool) (n o : ℕ) (f : Field) where
-  blank-read : o ≡ 3 → (t : Bool) → eqb n lowest ≡ t → cond t (W.Is Blank) W.Malformed ≡ W.Is f → Read signed n o f
+  blank-read : o ≡ 3 → (t : Bool) → eqb n lowest ≡ t → cond t (Some Blank) None ≡ Some f → Read signed n o f
   unfolding holds number_of origin_of
   blank-read three true e h =
       let is : f ≡ Blank = cc in
@@ -79,7 +79,7 @@ module _ (signed : Bool) (n o : ℕ) (f : Field) where
 
   -- by whether the origin is 0 and whether it is 1
   given-read : held signed (signed_in n) ≡ true → (s t : Bool) → eqb o 0 ≡ s → eqb o 1 ≡ t
-      → cond s (W.Is (Measured (signed_in n))) (cond t (W.Is (Inferred (signed_in n))) W.Malformed) ≡ W.Is f → Read signed n o f
+      → cond s (Some (Measured (signed_in n))) (cond t (Some (Inferred (signed_in n))) None) ≡ Some f → Read signed n o f
   unfolding holds number_of origin_of
   given-read k true t a b h =
       let is : f ≡ Measured (signed_in n) = cc in
@@ -89,18 +89,18 @@ module _ (signed : Bool) (n o : ℕ) (f : Field) where
       rw is (record { holding = k; number = signed_back_lem n; origin = sym (eqb-true o 1 b) })
   given-read k false false a b h = let z : ◌≡◌ {A = ℕ} 0 1 = cc in absurd (omega arith)
 
-  held-read : (t : Bool) → held signed (signed_in n) ≡ t → cond t (given_as o (signed_in n)) W.Malformed ≡ W.Is f → Read signed n o f
+  held-read : (t : Bool) → held signed (signed_in n) ≡ t → cond t (given_as o (signed_in n)) None ≡ Some f → Read signed n o f
   unfolding given_as
   held-read true k h = given-read k (eqb o 0) (eqb o 1) refl refl h
   held-read false k h = let z : ◌≡◌ {A = ℕ} 0 1 = cc in absurd (omega arith)
 
   -- read and written again
-  pub field-read : field_in signed n o ≡ W.Is f → Read signed n o f
+  pub field-read : field_in signed n o ≡ Some f → Read signed n o f
   unfolding field_in
   field-read = go (eqb o 3) refl
     where
       go : (t : Bool) → eqb o 3 ≡ t
-          → cond t (cond (eqb n lowest) (W.Is Blank) W.Malformed) (cond (held signed (signed_in n)) (given_as o (signed_in n)) W.Malformed) ≡ W.Is f
+          → cond t (cond (eqb n lowest) (Some Blank) None) (cond (held signed (signed_in n)) (given_as o (signed_in n)) None) ≡ Some f
           → Read signed n o f
       go true e h = blank-read (eqb-true o 3 e) (eqb n lowest) refl h
       go false e h = held-read (held signed (signed_in n)) refl h

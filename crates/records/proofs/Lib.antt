@@ -1,5 +1,5 @@
 pub mod NumberBack
-pub mod Halves
+pub mod ByteForms
 pub mod FieldBack
 pub mod RecordBack
 pub mod FieldByField

@@ -3,18 +3,16 @@ use Prim.Native.Nat.{ℕ, zero, suc, ◌+◌, ◌*◌, ◌≤◌, ◌<◌}
 use mathlib.Core.Path.{◌≡◌, refl, sym, ap, ◌∙◌}
 use mathlib.Core.Bool.{true, and-eq-true_iff}
 use mathlib.Core.List.{List, [], ◌∷◌, ◌++◌, append_assoc}
-use mathlib.Core.Option.{Option, none, some}
 use native.Mathlib.Omega.{arith}
 use native.Mathlib.Numerals.{add-one}
 use lib.ListN.{length, get_or, take, drop, length-append, length-drop, take-append-drop, drop_of_length-le, get_or-append}
 use lib.Seq.{take_at, drop-append-add, drop-append-le, get_or-append-add, take-append-le, length-take-le, take_all, take-add, drop-drop, drop-cons}
+use Rattle.std.specs.Prelude.{Option, Some, None}
+use Rattle.std.specs.Option.{option_map}
 use Rattle.request.specs.declared.Field.{Field}
 use Rattle.request.specs.declared.Field.TheVariants.{Blank}
 use Rattle.request.specs.declared.Request.{Request}
-use Rattle.text.specs.declared.figures.Word.{Word}
-use Rattle.text.specs.declared.figures.Word.TheVariants as W
-use Rattle.text.specs.declared.read.Line.TheVariants as L
-use Rattle.text.specs.Grammar.{signed_at, in_front, request_of, to_line}
+use Rattle.text.specs.Grammar.{signed_at, in_front, request_of}
 use Rattle.fields.specs.Held.{fields_in, holds, hold_all, writable}
 use Rattle.fields.proofs.FieldsLaws.{request-back, thirteen, fields_back}
 use Rattle.records.specs.Records.{are_bytes, high_first, number_from, number_of, origin_of, fields, record_size, numbers_of, origins_of, record_of, field_at, fields_from, record_in}
@@ -72,7 +70,7 @@ module _ (fs : List Field) (all : length fs ≡ fields) (k : ℕ) (inside : k < 
       let e : 4 * fields + k ≡ length (numbers_of fs) + k = omega (arith, length_numbers fs) in
       rw e (get_or-append-add (numbers_of fs) (origins_of fs) k 0 ∙ origin_at k fs (omega arith))
 
-  one-back : holds (signed_at k) (get_or fs k Blank) ≡ true → field_at (numbers_of fs ++ origins_of fs) k ≡ W.Is (get_or fs k Blank)
+  one-back : holds (signed_at k) (get_or fs k Blank) ≡ true → field_at (numbers_of fs ++ origins_of fs) k ≡ Some (get_or fs k Blank)
   unfolding field_at
   one-back h =
       let f : Field = get_or fs k Blank in
@@ -80,20 +78,20 @@ module _ (fs : List Field) (all : length fs ≡ fields) (k : ℕ) (inside : k < 
 
 -- all fields from field k on
 fields-from : (fs : List Field) → length fs ≡ fields → (n k : ℕ) → n + k ≡ fields → hold_all k (drop k fs) ≡ true
-    → fields_from n k (numbers_of fs ++ origins_of fs) ≡ some (drop k fs)
+    → fields_from n k (numbers_of fs ++ origins_of fs) ≡ Some (drop k fs)
 unfolding fields_from hold_all
-fields-from fs all zero k e h = ap some (sym (drop_of_length-le fs {i = k} (omega arith)))
+fields-from fs all zero k e h = ap Some (sym (drop_of_length-le fs {i = k} (omega arith)))
 fields-from fs all (suc n) k e h =
     let cut : drop k fs ≡ get_or fs k Blank ∷ drop (k + 1) fs = rw (add-one k) (drop-cons fs k Blank (omega arith)) in
     let g = (and-eq-true_iff (holds (signed_at k) (get_or fs k Blank)) (hold_all (k + 1) (drop (k + 1) fs))).0 (rw cut at h) in
     rw (cut, one-back fs all k (omega arith) g.0, fields-from fs all n (k + 1) (omega arith) g.1)
 
-pub record_back : (r : Request) → writable r ≡ true → record_in (record_of r) ≡ L.Is r
-unfolding record_of record_in writable to_line
-record_back r h = rw (fields-from (fields_in r) (thirteen r) fields 0 refl h) (ap L.Is (request-back r))
+pub record_back : (r : Request) → writable r ≡ true → record_in (record_of r) ≡ Some r
+unfolding record_of record_in writable
+record_back r h = rw (fields-from (fields_in r) (thirteen r) fields 0 refl h) (ap Some (request-back r))
 
 -- ---- a record, read and written again
--- a part of some bytes
+-- a part of Some bytes
 bytes_part : (i j : ℕ) (s : List ℕ) → are_bytes s ≡ true → are_bytes (take i (drop j s)) ≡ true
 bytes_part i j s h = (halves i (drop j s) (halves j s h).1).0
   where
@@ -117,19 +115,19 @@ module _ (s : List ℕ) where
     four : Bytes s → length (take 4 (drop (4 * k) s)) ≡ 4
     four b = length-take-le 4 (drop (4 * k) s) (omega (arith, b.0, length-drop (4 * k) s))
 
-    one-read : (f : Field) → field_at s k ≡ W.Is f → Read (signed_at k) (number_from 0 (take 4 (drop (4 * k) s))) (get_or s (4 * fields + k) 0) f
+    one-read : (f : Field) → field_at s k ≡ Some f → Read (signed_at k) (number_from 0 (take 4 (drop (4 * k) s))) (get_or s (4 * fields + k) 0) f
     unfolding field_at
     one-read f h = field-read (signed_at k) (number_from 0 (take 4 (drop (4 * k) s))) (get_or s (4 * fields + k) 0) f h
 
     -- its number is written as its four bytes
-    number_here : (f : Field) → field_at s k ≡ W.Is f → Bytes s → high_first 4 (number_of f) ≡ take 4 (drop (4 * k) s)
+    number_here : (f : Field) → field_at s k ≡ Some f → Bytes s → high_first 4 (number_of f) ≡ take 4 (drop (4 * k) s)
     number_here f h b =
         let x : List ℕ = take 4 (drop (4 * k) s) in
         let are = bytes_part 4 (4 * k) s b.1 in
         rw ((one-read f h).number (rw (four b) at (number_lt x are))) (rw (four b) at (bytes_back x are))
 
     -- one field more in front
-    more : (n : ℕ) (f : Field) (fs : List Field) → field_at s k ≡ W.Is f → Part s n (k + 1) fs → Part s (suc n) k (f ∷ fs)
+    more : (n : ℕ) (f : Field) (fs : List Field) → field_at s k ≡ Some f → Part s n (k + 1) fs → Part s (suc n) k (f ∷ fs)
     unfolding hold_all numbers_of origins_of
     more n f fs h p =
         let r = one-read f h in
@@ -146,38 +144,37 @@ module _ (s : List ℕ) where
         }
 
   -- all fields from field k on
-  part_read : (n k : ℕ) (fs : List Field) → n + k ≡ fields → fields_from n k s ≡ some fs → Part s n k fs
+  part_read : (n k : ℕ) (fs : List Field) → n + k ≡ fields → fields_from n k s ≡ Some fs → Part s n k fs
   unfolding fields_from hold_all numbers_of origins_of
   part_read zero k fs e h = let is : fs ≡ [] = cc in rw is (record { many = refl; holding = refl; numbers = λ b. refl; origins = λ b. refl })
   part_read (suc n) k fs e h = go (field_at s k) (fields_from n (k + 1) s) refl (λ gs. part_read n (k + 1) gs (omega arith)) h
     where
-      go : (w : Word) (o : Option (List Field)) → field_at s k ≡ w → ((gs : List Field) → o ≡ some gs → Part s n (k + 1) gs) → in_front w o ≡ some fs
+      go : (w : Option Field) (o : Option (List Field)) → field_at s k ≡ w → ((gs : List Field) → o ≡ Some gs → Part s n (k + 1) gs) → in_front w o ≡ Some fs
           → Part s (suc n) k fs
-      go (W.Is f) (some gs) q p g = let is : fs ≡ f ∷ gs = cc in rw is (more k (omega arith) n f gs q (p gs refl))
-      go (W.Is f) none q p g = let z : ◌≡◌ {A = ℕ} 0 1 = cc in absurd (omega arith)
-      go W.Malformed o q p g = let z : ◌≡◌ {A = ℕ} 0 1 = cc in absurd (omega arith)
+      go (Some f) (Some gs) q p g = let is : fs ≡ f ∷ gs = cc in rw is (more k (omega arith) n f gs q (p gs refl))
+      go (Some f) None q p g = let z : ◌≡◌ {A = ℕ} 0 1 = cc in absurd (omega arith)
+      go None o q p g = let z : ◌≡◌ {A = ℕ} 0 1 = cc in absurd (omega arith)
 
   -- all thirteen fields are written as the record itself
   whole : (fs : List Field) → Part s fields 0 fs → Bytes s → numbers_of fs ++ origins_of fs ≡ s
   whole fs p b = rw (p.numbers b, p.origins b) (sym (take-add (4 * fields) fields s) ∙ take_all record_size s (omega (arith, b.0)))
 
   -- and they are those of the request that they make
-  again : (r : Request) (o : Option (List Field)) → fields_from fields 0 s ≡ o → to_line o ≡ L.Is r
+  again : (r : Request) (o : Option (List Field)) → fields_from fields 0 s ≡ o → option_map request_of o ≡ Some r
       → (hold_all 0 (fields_in r) ≡ true) × (Bytes s → numbers_of (fields_in r) ++ origins_of (fields_in r) ≡ s)
-  unfolding to_line
-  again r (some fs) q h =
+  again r (Some fs) q h =
       let p = part_read fields 0 fs refl q in
       let is : request_of fs ≡ r = cc in
       rw (← is, fields_back fs p.many) (p.holding, whole fs p)
-  again r none q h = let z : ◌≡◌ {A = ℕ} 0 1 = cc in absurd (omega arith)
+  again r None q h = let z : ◌≡◌ {A = ℕ} 0 1 = cc in absurd (omega arith)
 
 module _ (s : List ℕ) (r : Request) where
   -- text can hold what a record is read as, whatever its bytes
-  pub record_writable : record_in s ≡ L.Is r → writable r ≡ true
+  pub record_writable : record_in s ≡ Some r → writable r ≡ true
   unfolding record_in writable
   record_writable h = (again s r (fields_from fields 0 s) refl h).0
 
-  pub bytes_of_record : length s ≡ record_size → are_bytes s ≡ true → record_in s ≡ L.Is r → record_of r ≡ s
+  pub bytes_of_record : length s ≡ record_size → are_bytes s ≡ true → record_in s ≡ Some r → record_of r ≡ s
   unfolding record_in record_of
   bytes_of_record long bytes h = (again s r (fields_from fields 0 s) refl h).1 (long, bytes)
 
@@ -199,4 +196,4 @@ module _ (s t : List ℕ) (long : length s ≡ record_size) where
 
   pub record_first : record_in (s ++ t) ≡ record_in s
   unfolding record_in
-  record_first = ap to_line (fields-first fields 0 (omega arith))
+  record_first = ap (option_map request_of) (fields-first fields 0 (omega arith))

@@ -1,14 +1,11 @@
 -- A record of a site file, 02 K8: thirteen 32-bit signed numbers in document 01's field order, high byte first, blank being the lowest
 -- such number; then thirteen bytes of origin. Definitions only.
-use Rattle.std.specs.Prelude.{ℕ, zero, suc, ◌+◌, ◌-◌, ◌*◌, ◌/◌, ◌%◌, Bool, true, cond, ◌&&◌, List, [], ◌∷◌, ◌++◌, ltb, eqb, ℤ, pos, negsuc, take, drop, get_or}
-use Rattle.std.proofs.Math.Option.{Option, some}
+use Rattle.std.specs.Prelude.{ℕ, zero, suc, ◌+◌, ◌-◌, ◌*◌, ◌/◌, ◌%◌, Bool, true, cond, ◌&&◌, List, [], ◌∷◌, ◌++◌, ltb, eqb, ℤ, pos, negsuc, take, drop, get_or, Option, Some, None}
+use Rattle.std.specs.Option.{option_map}
 use Rattle.request.specs.declared.Field.{Field}
 use Rattle.request.specs.declared.Field.TheVariants.{Measured, Inferred, Estimated, Blank}
 use Rattle.request.specs.declared.Request.{Request}
-use Rattle.text.specs.declared.figures.Word.{Word}
-use Rattle.text.specs.declared.figures.Word.TheVariants as W
-use Rattle.text.specs.declared.read.Line.{Line}
-use Rattle.text.specs.Grammar.{signed_at, in_front, to_line}
+use Rattle.text.specs.Grammar.{signed_at, in_front, request_of}
 use Rattle.fields.specs.Held.{fields_in, held}
 
 -- ---- numbers
@@ -56,16 +53,16 @@ origin_of (Estimated v) = 2
 origin_of Blank = 3
 
 -- a number that was given: 0 and 1 say how, and no other origin does
-unfoldable pub given_as : ℕ → ℤ → Word
-given_as origin v = cond (eqb origin 0) (W.Is (Measured v)) (cond (eqb origin 1) (W.Is (Inferred v)) W.Malformed)
+unfoldable pub given_as : ℕ → ℤ → Option Field
+given_as origin v = cond (eqb origin 0) (Some (Measured v)) (cond (eqb origin 1) (Some (Inferred v)) None)
 
 -- the field of a number and an origin: blank is both or neither, and any other number is one that text could hold there
-unfoldable pub field_in : Bool → ℕ → ℕ → Word
+unfoldable pub field_in : Bool → ℕ → ℕ → Option Field
 unfolding held given_as signed_in
 field_in signed number origin =
     cond (eqb origin 3)
-    (cond (eqb number lowest) (W.Is Blank) W.Malformed)
-    (cond (held signed (signed_in number)) (given_as origin (signed_in number)) W.Malformed)
+    (cond (eqb number lowest) (Some Blank) None)
+    (cond (held signed (signed_in number)) (given_as origin (signed_in number)) None)
 
 -- ---- the record
 -- how many fields, and how many bytes: four and one a field
@@ -91,17 +88,17 @@ unfolding numbers_of origins_of fields_in
 record_of r = numbers_of (fields_in r) ++ origins_of (fields_in r)
 
 -- field k of a record
-unfoldable pub field_at : List ℕ → ℕ → Word
+unfoldable pub field_at : List ℕ → ℕ → Option Field
 unfolding field_in number_from signed_at
 field_at s k = field_in (signed_at k) (number_from 0 (take 4 (drop (4 * k) s))) (get_or s (4 * fields + k) 0)
 
 -- n fields from field k on, if all are well-formed
 unfoldable pub fields_from : ℕ → ℕ → List ℕ → Option (List Field)
 unfolding in_front field_at
-fields_from zero k s = some []
+fields_from zero k s = Some []
 fields_from (suc n) k s = in_front (field_at s k) (fields_from n (k + 1) s)
 
 -- the bytes of a record, read
-unfoldable pub record_in : List ℕ → Line
-unfolding to_line fields_from
-record_in s = to_line (fields_from fields 0 s)
+unfoldable pub record_in : List ℕ → Option Request
+unfolding request_of fields_from
+record_in s = option_map request_of (fields_from fields 0 s)

@@ -6,8 +6,8 @@ ghost use Rattle.records.specs.Records.{signed_in, given_as, field_in, fields, f
 use crate::numbers::long_at;
 use crate::write::LOWEST;
 use fields::FIELDS;
-use request::Field;
-use text::{Line, Word, request_of, signed_at};
+use request::{Field, Request};
+use text::{request_of, signed_at};
 
 // The signed number that stands in four bytes.
 #[tactic(auto, unfolding(crate::specs::Records::signed_in))]
@@ -15,10 +15,7 @@ fn signed_in(n: u64) -> i64
     requires { n < 4294967296 }
     ensures { result ≡ signed_in n }
 {
-    if n < LOWEST {
-        return n as i64;
-    }
-    n as i64 - 4_294_967_296
+    i64::from((n as u32).cast_signed())
 }
 
 // Whether text could hold the number in a field, which may have a minus sign or not.
@@ -32,40 +29,40 @@ fn is_held(signed: bool, v: i64) -> bool
 
 // A number that was given, by its origin.
 #[tactic(auto, unfolding(crate::specs::Records::given_as))]
-fn given_as(origin: u8, v: i64) -> Word
+fn given_as(origin: u8, v: i64) -> Option<Field>
     ensures { result ≡ given_as origin v }
 {
-    if origin == 0 {
-        return Word::Is(Field::Measured(v));
+    match origin {
+        0 => Some(Field::Measured(v)),
+        1 => Some(Field::Inferred(v)),
+        _ => None,
     }
-    if origin == 1 {
-        return Word::Is(Field::Inferred(v));
-    }
-    Word::Malformed
 }
 
 // The field of a number and an origin.
 #[tactic(auto, unfolding(crate::specs::Records::field_in))]
-fn field_in(signed: bool, number: u64, origin: u8) -> Word
+fn field_in(signed: bool, number: u64, origin: u8) -> Option<Field>
     requires { number < 4294967296 }
     ensures { result ≡ field_in signed number origin }
 {
     if origin == 3 {
-        if number == LOWEST {
-            return Word::Is(Field::Blank);
-        }
-        return Word::Malformed;
+        return if number == LOWEST {
+            Some(Field::Blank)
+        } else {
+            None
+        };
     }
     let v = signed_in(number);
     if is_held(signed, v) {
-        return given_as(origin, v);
+        given_as(origin, v)
+    } else {
+        None
     }
-    Word::Malformed
 }
 
 // Field k of a record.
 #[tactic(auto, unfolding(crate::specs::Records::field_at))]
-fn field_at(s: &[u8], k: usize) -> Word
+fn field_at(s: &[u8], k: usize) -> Option<Field>
     requires { (record_size ≤ length s.now) × (k < fields) }
     ensures { result ≡ field_at s.now k }
 {
@@ -73,18 +70,13 @@ fn field_at(s: &[u8], k: usize) -> Word
 }
 
 // A record: its request, if all its fields are well-formed.
-pub fn record_in(s: &[u8]) -> Line
+pub fn record_in(s: &[u8]) -> Option<Request>
     requires { record_size ≤ length s.now }
     ensures { result ≡ record_in s.now }
 {
     let mut got = [Field::Blank; FIELDS];
-    let mut k = 0usize;
-    while k < FIELDS {
-        let Word::Is(f) = field_at(s, k) else {
-            return Line::Malformed;
-        };
-        got[k] = f;
-        k += 1;
+    for k in 0..FIELDS {
+        got[k] = field_at(s, k)?;
     }
-    Line::Is(request_of(got))
+    Some(request_of(got))
 }

@@ -4,13 +4,12 @@ ghost use Rattle.lent.specs.Lent.{Written};
 ghost use Rattle.records.specs.Records.{lowest, word_of, number_of, origin_of, record_size, record_of};
 
 use crate::numbers::put_long;
-use fields::{FIELDS, fields_of};
+use fields::fields_of;
 use lent::put_byte;
 use request::{Field, Request};
-use sizes::size_of;
 
-// The largest number of 32 bits.
-const TOP: u64 = 4_294_967_295;
+// How many numbers four bytes hold.
+const WORDS: u64 = 4_294_967_296;
 
 // The lowest 32-bit signed number, as it stands in four bytes.
 pub const LOWEST: u64 = 2_147_483_648;
@@ -20,14 +19,8 @@ pub const LOWEST: u64 = 2_147_483_648;
 fn word_of(v: i64) -> u64
     ensures { result ≡ word_of v }
 {
-    let n = size_of(v);
-    if v < 0 {
-        if TOP < n {
-            return 0;
-        }
-        return TOP - n + 1;
-    }
-    n
+    let n = v.unsigned_abs();
+    if v < 0 { WORDS.saturating_sub(n) } else { n }
 }
 
 // The number of a field.
@@ -36,6 +29,7 @@ fn number_of(f: Field) -> u64
     ensures { result ≡ number_of f }
 {
     match f {
+        // Not one arm: an or-pattern that binds got no proof.
         Field::Measured(v) => word_of(v),
         Field::Inferred(v) => word_of(v),
         Field::Estimated(v) => word_of(v),
@@ -43,7 +37,8 @@ fn number_of(f: Field) -> u64
     }
 }
 
-// The number of its origin.
+// The number of its origin. `From`, and `TryFrom` for `given_as`, would be no plainer: neither says that the
+// origin is meant.
 #[tactic(auto, unfolding(crate::specs::Records::origin_of))]
 fn origin_of(f: Field) -> u8
     ensures { result ≡ origin_of f }
@@ -63,15 +58,11 @@ pub fn put_record(b: &mut [u8], at: usize, r: Request) -> usize
 {
     let f = fields_of(r);
     let mut p = at;
-    let mut k = 0usize;
-    while k < FIELDS {
-        p = put_long(b, p, number_of(f[k]));
-        k += 1;
+    for field in &f {
+        p = put_long(b, p, number_of(*field));
     }
-    let mut j = 0usize;
-    while j < FIELDS {
-        p = put_byte(b, p, origin_of(f[j]));
-        j += 1;
+    for field in &f {
+        p = put_byte(b, p, origin_of(*field));
     }
     p
 }

@@ -1,114 +1,78 @@
--- The refusals by name, the order in which they are tested, and what it means that one of them is the first. Document 01's table, from
+-- The refusals by name and number, the order in which they are tested, and what it means that one of them is the first. Document 01's table, from
 -- the top; no other file of the specs has their numbers. Definitions only.
-use Rattle.std.specs.Prelude.{ℕ, Bool, true, false, not, cond, ◌&&◌, List, [], ◌∷◌, T, leb, eqb}
+use Rattle.std.specs.Prelude.{ℕ, ◌≡◌, Bool, true, false, not, cond, ◌&&◌, List, [], ◌∷◌, map, T, leb, eqb, Option, Some, None, Result, Ok, Err}
+use Rattle.refusals.specs.declared.Refusal.{Refusal}
+use Rattle.refusals.specs.declared.Refusal.TheVariants as No
 
--- ---- by name
+-- ---- by number
+abbrev pub number_of : Refusal → ℕ
 -- the line cannot be read
-abbrev pub malformed : ℕ
-malformed = 14
-
+number_of No.Malformed = 14
 -- a figure is already marked as estimated by us
-abbrev pub marked : ℕ
-marked = 26
-
+number_of No.Marked = 26
 -- the file has another mark or version
-abbrev pub no_file : ℕ
-no_file = 19
-
+number_of No.NoFile = 19
 -- the file is longer or shorter than its count says, or has too many records
-abbrev pub file_length : ℕ
-file_length = 20
-
+number_of No.FileLength = 20
 -- a field of a file's record
-abbrev pub file_field : ℕ
-file_field = 21
-
-abbrev pub rake : ℕ
-rake = 1
-
+number_of No.FileField = 21
+number_of No.Rake = 1
 -- by the style of fault
-abbrev pub magnitude : ℕ
-magnitude = 2
-
-abbrev pub vs30 : ℕ
-vs30 = 3
-
-abbrev pub dip : ℕ
-dip = 4
-
-abbrev pub width : ℕ
-width = 5
-
-abbrev pub hypocentre : ℕ
-hypocentre = 6
-
+number_of No.Magnitude = 2
+number_of No.Vs30 = 3
+number_of No.Dip = 4
+number_of No.Width = 5
+number_of No.Hypocentre = 6
 -- ZTOR, given or completed
-abbrev pub top : ℕ
-top = 7
-
-abbrev pub rjb : ℕ
-rjb = 8
-
-abbrev pub azimuth : ℕ
-azimuth = 9
-
+number_of No.Top = 7
+number_of No.Rjb = 8
+number_of No.Azimuth = 9
 -- the site is above the rupture, and RRUP is blank
-abbrev pub above : ℕ
-above = 10
-
+number_of No.Above = 10
 -- given or completed
-abbrev pub rrup : ℕ
-rrup = 11
-
+number_of No.Rrup = 11
 -- a given RRUP that is too short
-abbrev pub too_short : ℕ
-too_short = 12
-
+number_of No.TooShort = 12
 -- a given RRUP that is too long for the fault
-abbrev pub too_far : ℕ
-too_far = 18
-
+number_of No.TooFar = 18
 -- Z1.0, Z1.5 or Z2.5, the last given or completed
-abbrev pub basin : ℕ
-basin = 13
-
+number_of No.Basin = 13
 -- there is no such measure
-abbrev pub no_measure : ℕ
-no_measure = 15
-
+number_of No.NoMeasure = 15
 -- the period is not from the shortest to the longest that is tabulated
-abbrev pub no_period : ℕ
-no_period = 17
-
+number_of No.NoPeriod = 17
 -- the answer is longer than what is lent for it
-abbrev pub too_long : ℕ
-too_long = 16
+number_of No.TooLong = 16
+
+-- what a refusal's number is, as a conversion says it
+abbrev pub IsNumberOf : Refusal → ℕ → Type 0
+IsNumberOf refusal n = n ≡ number_of refusal
 
 -- ---- the order in which they are tested
-abbrev pub order : List ℕ
+abbrev pub order : List Refusal
 order =
-    malformed
-    ∷ marked
-    ∷ no_file
-    ∷ file_length
-    ∷ file_field
-    ∷ rake
-    ∷ magnitude
-    ∷ vs30
-    ∷ dip
-    ∷ width
-    ∷ hypocentre
-    ∷ top
-    ∷ rjb
-    ∷ azimuth
-    ∷ above
-    ∷ rrup
-    ∷ too_short
-    ∷ too_far
-    ∷ basin
-    ∷ no_measure
-    ∷ no_period
-    ∷ too_long
+    No.Malformed
+    ∷ No.Marked
+    ∷ No.NoFile
+    ∷ No.FileLength
+    ∷ No.FileField
+    ∷ No.Rake
+    ∷ No.Magnitude
+    ∷ No.Vs30
+    ∷ No.Dip
+    ∷ No.Width
+    ∷ No.Hypocentre
+    ∷ No.Top
+    ∷ No.Rjb
+    ∷ No.Azimuth
+    ∷ No.Above
+    ∷ No.Rrup
+    ∷ No.TooShort
+    ∷ No.TooFar
+    ∷ No.Basin
+    ∷ No.NoMeasure
+    ∷ No.NoPeriod
+    ∷ No.TooLong
     ∷ []
 
 -- what is left of a list from n on, nothing where n is not in it
@@ -131,32 +95,46 @@ abbrev pub up_to : ℕ → List ℕ → Bool
 up_to most [] = true
 up_to most (n ∷ rest) = leb 1 n && (leb n most && up_to most rest)
 
+-- the numbers of a list of refusals
+abbrev pub numbers : List Refusal → List ℕ
+numbers refusals = map number_of refusals
+
 -- ---- the first that applies
--- a row is a refusal's number, and whether its condition holds
+-- a row is a refusal, and whether its condition holds
 abbrev pub Rows : Type 0
-Rows = List (ℕ × Bool)
+Rows = List (Refusal × Bool)
 
--- the number of the first row whose condition holds, 0 where none does
-unfoldable pub first : Rows → ℕ
-first [] = 0
-first (row ∷ rows) = cond row.1 row.0 (first rows)
+-- the refusal of the first row whose condition holds, none where none does
+unfoldable pub first : Rows → Option Refusal
+first [] = None
+first (row ∷ rows) = cond row.1 (Some row.0) (first rows)
 
--- n is the number of a row whose condition holds, and that of no row before it does
-pub data Fires (n : ℕ) : Rows → Type 0 where
+-- n is the refusal of a row whose condition holds, and that of no row before it does
+pub data Fires (n : Refusal) : Rows → Type 0 where
   here : {rest : Rows} → Fires n ((n, true) ∷ rest)
-  later : {m : ℕ} {rest : Rows} → Fires n rest → Fires n ((m, false) ∷ rest)
+  later : {m : Refusal} {rest : Rows} → Fires n rest → Fires n ((m, false) ∷ rest)
 
 -- no row's condition holds
 pub data Silent : Rows → Type 0 where
   empty : Silent []
-  quiet : {m : ℕ} {rest : Rows} → Silent rest → Silent ((m, false) ∷ rest)
+  quiet : {m : Refusal} {rest : Rows} → Silent rest → Silent ((m, false) ∷ rest)
+
+-- an answer: what is asked for, unless it is refused
+abbrev pub unless : {A : Type 0} → Option Refusal → A → Result A Refusal
+unless None a = Ok a
+unless (Some n) a = Err n
+
+-- what an answer says in document 01's terms: its refusal's number, 0 for none
+abbrev pub number_in : {A : Type 0} → Result A Refusal → ℕ
+number_in (Ok a) = 0
+number_in (Err n) = number_of n
 
 -- ---- a table in the order
 -- each row's number stands in the list, not before that of the row above it
 abbrev pub follows : List ℕ → Rows → Bool
 follows list [] = true
-follows list (row ∷ rows) = some (from row.0 list) && follows (from row.0 list) rows
+follows list (row ∷ rows) = some (from (number_of row.0) list) && follows (from (number_of row.0) list) rows
 
--- a table's rows stand in the order in which they are tested, where a number may have several
+-- a table's rows stand in the order in which they are tested, where a refusal may have several
 abbrev pub InOrder : Rows → Type 0
-InOrder rows = T (follows order rows)
+InOrder rows = T (follows (numbers order) rows)

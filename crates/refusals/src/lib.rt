@@ -1,71 +1,76 @@
-// The refusals by name, in the order in which they are tested: document 01's table from the top. No other
-// file of the code has their numbers. specs/Order says the same, and the contract of each function that
-// refuses holds the one to the other.
+// The refusals by name with their numbers, in the order in which they are tested: document 01's table from
+// the top. No other file of the code has the numbers. specs/Order says the same, and the contract of each
+// function that refuses holds the one to the other.
 
 #![tactic(auto)]
 
-// The line cannot be read.
-pub const MALFORMED: u32 = 14;
+ghost use Rattle.refusals.specs.Order.{IsNumberOf};
 
-// A figure is already marked as estimated by us.
-pub const MARKED: u32 = 26;
+use std::error::Error;
+use std::fmt;
 
-// The file has another mark or version.
-pub const NO_FILE: u32 = 19;
+// Why a request, a file or a call is refused.
+#[derive(Clone, Copy, Debug, PartialEq, Eq)]
+pub enum Refusal {
+    // The line cannot be read.
+    Malformed = 14,
+    // A figure is already marked as estimated by us.
+    Marked = 26,
+    // The file has another mark or version.
+    NoFile = 19,
+    // The file is longer or shorter than its count says, or has too many records.
+    FileLength = 20,
+    // A field of a file's record.
+    FileField = 21,
+    // The rake.
+    Rake = 1,
+    // The magnitude, by the style of fault.
+    Magnitude = 2,
+    // The soil's speed.
+    Vs30 = 3,
+    // A given dip.
+    Dip = 4,
+    // A given width of the rupture.
+    Width = 5,
+    // A given depth of the hypocentre.
+    Hypocentre = 6,
+    // The depth of the rupture's top, given or completed.
+    Top = 7,
+    // The distance to the rupture's projection.
+    Rjb = 8,
+    // The azimuth.
+    Azimuth = 9,
+    // The site is above the rupture, and its distance is blank.
+    Above = 10,
+    // The distance to the rupture, given or completed.
+    Rrup = 11,
+    // A given distance to the rupture that is too short.
+    TooShort = 12,
+    // A given distance to the rupture that is too long for the fault.
+    TooFar = 18,
+    // A depth of the basin, given or completed.
+    Basin = 13,
+    // There is no such measure.
+    NoMeasure = 15,
+    // The period is not from the shortest to the longest that is tabulated.
+    NoPeriod = 17,
+    // The answer is longer than what is lent for it.
+    TooLong = 16,
+}
 
-// The file is longer or shorter than its count says, or has too many records.
-pub const FILE_LENGTH: u32 = 20;
+impl From<Refusal> for u32 {
+    ghost from_gives = { IsNumberOf };
 
-// A field of a file's record.
-pub const FILE_FIELD: u32 = 21;
+    fn from(refusal: Refusal) -> u32 {
+        refusal as u32
+    }
+}
 
-// The rake.
-pub const RAKE: u32 = 1;
+impl fmt::Display for Refusal {
+    fn fmt<W: fmt::Write>(&self, f: &mut fmt::Formatter<W>) -> fmt::Result {
+        let number = u32::from(*self);
+        write!(f, "{number}")
+    }
+}
 
-// The magnitude, by the style of fault.
-pub const MAGNITUDE: u32 = 2;
-
-// The soil's speed.
-pub const VS30: u32 = 3;
-
-// A given dip.
-pub const DIP: u32 = 4;
-
-// A given width of the rupture.
-pub const WIDTH: u32 = 5;
-
-// A given depth of the hypocentre.
-pub const HYPOCENTRE: u32 = 6;
-
-// The depth of the rupture's top, given or completed.
-pub const TOP: u32 = 7;
-
-// The distance to the rupture's projection.
-pub const RJB: u32 = 8;
-
-// The azimuth.
-pub const AZIMUTH: u32 = 9;
-
-// The site is above the rupture, and its distance is blank.
-pub const ABOVE: u32 = 10;
-
-// The distance to the rupture, given or completed.
-pub const RRUP: u32 = 11;
-
-// A given distance to the rupture that is too short.
-pub const TOO_SHORT: u32 = 12;
-
-// A given distance to the rupture that is too long for the fault.
-pub const TOO_FAR: u32 = 18;
-
-// A depth of the basin, given or completed.
-pub const BASIN: u32 = 13;
-
-// There is no such measure.
-pub const NO_MEASURE: u32 = 15;
-
-// The period is not from the shortest to the longest that is tabulated.
-pub const NO_PERIOD: u32 = 17;
-
-// The answer is longer than what is lent for it.
-pub const TOO_LONG: u32 = 16;
+impl Error for Refusal {}

@@ -1,2 +1,2 @@
-pub mod FilledRows
 pub mod LnFits
+pub mod MadeRows

@@ -43,149 +43,133 @@ pub enum Style {
     Normal,
 }
 
-// Whether the caller gave the field, measured or inferred.
-#[tactic(auto, unfolding(crate::specs::Fields::is_given))]
-pub fn is_given(f: Field) -> bool
-    ensures { result ≡ is_given f }
-{
-    match f {
-        Field::Measured(_) => true,
-        Field::Inferred(_) => true,
-        Field::Estimated(_) => false,
-        Field::Blank => false,
+impl Field {
+    // Whether the caller gave the field, measured or inferred.
+    #[tactic(auto, unfolding(crate::specs::Fields::is_given))]
+    pub fn is_given(self) -> bool
+        ensures { result ≡ is_given self }
+    {
+        match self {
+            Field::Measured(_) => true,
+            Field::Inferred(_) => true,
+            Field::Estimated(_) => false,
+            Field::Blank => false,
+        }
+    }
+
+    // Whether the field is marked as estimated by us.
+    #[tactic(auto, unfolding(crate::specs::Fields::is_estimated))]
+    pub fn is_estimated(self) -> bool
+        ensures { result ≡ is_estimated self }
+    {
+        match self {
+            Field::Measured(_) => false,
+            Field::Inferred(_) => false,
+            Field::Estimated(_) => true,
+            Field::Blank => false,
+        }
+    }
+
+    // Whether the field is blank: neither given nor estimated.
+    #[tactic(auto, unfolding(crate::specs::Fields::is_blank, crate::specs::Fields::is_given, crate::specs::Fields::is_estimated))]
+    pub fn is_blank(self) -> bool
+        ensures { result ≡ is_blank self }
+    {
+        !(self.is_given() | self.is_estimated())
+    }
+
+    // The field's number, or 0.
+    #[tactic(auto, unfolding(crate::specs::Fields::value_of))]
+    pub fn value(self) -> i64
+        ensures { result ≡ value_of self }
+    {
+        match self {
+            Field::Measured(v) => v,
+            Field::Inferred(v) => v,
+            Field::Estimated(v) => v,
+            Field::Blank => 0,
+        }
+    }
+
+    // Its size.
+    #[tactic(auto, unfolding(crate::specs::Fields::size_of))]
+    pub fn size(self) -> u64
+        ensures { result ≡ size_of self }
+    {
+        self.value().unsigned_abs()
+    }
+
+    // Whether the field is given and lies from low to high, both ends included.
+    #[tactic(auto, unfolding(crate::specs::Fields::within))]
+    pub fn is_within(self, low: i64, high: i64) -> bool
+        ensures { result ≡ within self low high }
+    {
+        let v = self.value();
+        self.is_given() && low <= v && v <= high
+    }
+
+    // Whether the field is blank, or is given and lies from low to high.
+    #[tactic(auto, unfolding(crate::specs::Fields::allowed))]
+    pub fn is_allowed(self, low: i64, high: i64) -> bool
+        ensures { result ≡ allowed self low high }
+    {
+        self.is_blank() || self.is_within(low, high)
     }
 }
 
-// Whether the field is marked as estimated by us.
-#[tactic(auto, unfolding(crate::specs::Fields::is_estimated))]
-pub fn is_estimated(f: Field) -> bool
-    ensures { result ≡ is_estimated f }
-{
-    match f {
-        Field::Measured(_) => false,
-        Field::Inferred(_) => false,
-        Field::Estimated(_) => true,
-        Field::Blank => false,
+impl Style {
+    // The style that a rake stands for: both ranges are open.
+    #[tactic(auto, unfolding(crate::specs::Styles::style_of))]
+    pub fn of_rake(rake: i64) -> Style
+        ensures { result ≡ style_of rake }
+    {
+        if 30 < rake && rake < 150 {
+            Style::Reverse
+        } else if -150 < rake && rake < -30 {
+            Style::Normal
+        } else {
+            Style::StrikeSlip
+        }
+    }
+
+    // Whether a magnitude, in hundredths, is given and lies in the range of the style.
+    #[tactic(auto, unfolding(crate::specs::Styles::top_magnitude))]
+    pub fn allows(self, m: Field) -> bool
+        ensures { result ≡ within m (pos 400) (top_magnitude self) }
+    {
+        match self {
+            Style::StrikeSlip => m.is_within(400, 850),
+            Style::Reverse => m.is_within(400, 800),
+            Style::Normal => m.is_within(400, 750),
+        }
     }
 }
 
-// Whether the field is blank: neither given nor estimated.
-#[tactic(auto, unfolding(crate::specs::Fields::is_blank, crate::specs::Fields::is_given, crate::specs::Fields::is_estimated))]
-pub fn is_blank(f: Field) -> bool
-    ensures { result ≡ is_blank f }
-{
-    !(is_given(f) | is_estimated(f))
-}
-
-// The field's number, or 0.
-#[tactic(auto, unfolding(crate::specs::Fields::value_of))]
-pub fn value_of(f: Field) -> i64
-    ensures { result ≡ value_of f }
-{
-    match f {
-        Field::Measured(v) => v,
-        Field::Inferred(v) => v,
-        Field::Estimated(v) => v,
-        Field::Blank => 0,
+impl Request {
+    // Whether any field is marked as estimated by us: all thirteen are read, without a branch for each.
+    #[tactic(auto, unfolding(crate::specs::Fields::marked))]
+    pub fn is_marked(self) -> bool
+        ensures { result ≡ marked self }
+    {
+        self.m.is_estimated()
+            | self.rake.is_estimated()
+            | self.vs30.is_estimated()
+            | self.dip.is_estimated()
+            | self.w.is_estimated()
+            | self.zhyp.is_estimated()
+            | self.ztor.is_estimated()
+            | self.rjb.is_estimated()
+            | self.azimuth.is_estimated()
+            | self.rrup.is_estimated()
+            | self.z10.is_estimated()
+            | self.z15.is_estimated()
+            | self.z25.is_estimated()
     }
-}
 
-// Its size.
-#[tactic(auto, unfolding(crate::specs::Fields::size_of))]
-pub fn size_of(f: Field) -> u64
-    ensures { result ≡ size_of f }
-{
-    sizes::size_of(value_of(f))
-}
-
-// Whether the field is given and lies from low to high, both ends included.
-#[tactic(auto, unfolding(crate::specs::Fields::within))]
-pub fn is_within(f: Field, low: i64, high: i64) -> bool
-    ensures { result ≡ within f low high }
-{
-    if !is_given(f) {
-        return false;
-    }
-    let v = value_of(f);
-    if v < low {
-        return false;
-    }
-    v <= high
-}
-
-// Whether the field is blank, or is given and lies from low to high.
-#[tactic(auto, unfolding(crate::specs::Fields::allowed))]
-pub fn is_allowed(f: Field, low: i64, high: i64) -> bool
-    ensures { result ≡ allowed f low high }
-{
-    if is_blank(f) {
-        return true;
-    }
-    is_within(f, low, high)
-}
-
-// Whether any field is marked as estimated by us.
-#[tactic(auto, unfolding(crate::specs::Fields::marked))]
-pub fn is_marked(r: Request) -> bool
-    ensures { result ≡ marked r }
-{
-    let m = r.m;
-    let rake = r.rake;
-    let vs30 = r.vs30;
-    let dip = r.dip;
-    let w = r.w;
-    let zhyp = r.zhyp;
-    let ztor = r.ztor;
-    let rjb = r.rjb;
-    let azimuth = r.azimuth;
-    let rrup = r.rrup;
-    let z10 = r.z10;
-    let z15 = r.z15;
-    let z25 = r.z25;
-    is_estimated(m)
-        | is_estimated(rake)
-        | is_estimated(vs30)
-        | is_estimated(dip)
-        | is_estimated(w)
-        | is_estimated(zhyp)
-        | is_estimated(ztor)
-        | is_estimated(rjb)
-        | is_estimated(azimuth)
-        | is_estimated(rrup)
-        | is_estimated(z10)
-        | is_estimated(z15)
-        | is_estimated(z25)
-}
-
-// The style that a rake stands for: both ranges are open.
-#[tactic(auto, unfolding(crate::specs::Styles::style_of))]
-pub fn style_of(rake: i64) -> Style
-    ensures { result ≡ style_of rake }
-{
-    if 30 < rake && rake < 150 {
-        Style::Reverse
-    } else if -150 < rake && rake < -30 {
-        Style::Normal
-    } else {
-        Style::StrikeSlip
-    }
-}
-
-// The style of a request by its rake.
-pub fn style_by_rake(f: Field) -> Style
-    ensures { result ≡ style_of (value_of f) }
-{
-    style_of(value_of(f))
-}
-
-// Whether the magnitude, in hundredths, is given and lies in the range of its style.
-#[tactic(auto, unfolding(crate::specs::Styles::top_magnitude))]
-pub fn is_magnitude(f: Field, s: Style) -> bool
-    ensures { result ≡ within f (pos 400) (top_magnitude s) }
-{
-    match s {
-        Style::StrikeSlip => is_within(f, 400, 850),
-        Style::Reverse => is_within(f, 400, 800),
-        Style::Normal => is_within(f, 400, 750),
+    // The style of a request by its rake.
+    pub fn style(self) -> Style
+        ensures { result ≡ style_of (value_of self.rake) }
+    {
+        Style::of_rake(self.rake.value())
     }
 }

@@ -10,17 +10,14 @@ use lib.Dec.{leb, eqb}
 use lib.IntN.{ℤ, pos, negsuc, nat_abs}
 use lib.ListN.{length, get_or, drop, drop_of_length-le}
 use lib.Signed.{lt_z}
+use Rattle.std.specs.Prelude.{Option, Some, None}
+use Rattle.std.specs.Option.{option_map, option_and_then}
 use Rattle.exact.proofs.Signed.{lt-parts}
 use Rattle.request.specs.declared.Field.{Field}
 use Rattle.request.specs.declared.Field.TheVariants.{Measured, Inferred, Estimated, Blank}
 use Rattle.numerals.specs.Render.{minus, render_signed}
 use Rattle.numerals.proofs.RenderLaws.{length-render, some-digit}
-use Rattle.text.specs.declared.figures.Number.{Number}
-use Rattle.text.specs.declared.figures.Number.TheVariants as N
-use Rattle.text.specs.declared.figures.Signed.{Signed}
-use Rattle.text.specs.declared.figures.Signed.TheVariants as S
-use Rattle.text.specs.declared.figures.Word.TheVariants as W
-use Rattle.text.specs.Grammar.{tilde, unsigned_of, plain, negative, signed_of, as_word, field_of, space_at}
+use Rattle.text.specs.Grammar.{tilde, unsigned_of, negative, signed_of, field_of, space_at}
 use Rattle.text.proofs.NumberLaws.{number_lt}
 use Rattle.text.proofs.RoundTrip.{field_back, inferred-back, signed_no_space}
 use Rattle.fields.specs.Held.{held, holds}
@@ -43,50 +40,49 @@ held-negative : (n : ℕ) → suc n < 1000000 → held true (negsuc n) ≡ true
 unfolding held
 held-negative n h = rw (le-leb n 999998 (omega arith))
 
-plain_text : (signed : Bool) (s : List ℕ) (z : ℤ) → plain (unsigned_of s) ≡ S.Is z → (held signed z ≡ true) × (render_signed z ≡ s)
-unfolding plain render_signed
+plain_text : (signed : Bool) (s : List ℕ) (z : ℤ) → option_map pos (unsigned_of s) ≡ Some z → (held signed z ≡ true) × (render_signed z ≡ s)
+unfolding render_signed
 plain_text signed s z e = go (unsigned_of s) refl e
   where
-    go : (o : Number) → unsigned_of s ≡ o → plain o ≡ S.Is z → (held signed z ≡ true) × (render_signed z ≡ s)
-    go (N.Is n) h g = let q : z ≡ pos n = cc in rw q (held_plain signed n (number_lt s n h), number_text s n h)
-    go N.Malformed h g = let q : ◌≡◌ {A = ℕ} 0 1 = cc in absurd (omega arith)
+    go : (o : Option ℕ) → unsigned_of s ≡ o → option_map pos o ≡ Some z → (held signed z ≡ true) × (render_signed z ≡ s)
+    go (Some n) h g = let q : z ≡ pos n = cc in rw q (held_plain signed n (number_lt s n h), number_text s n h)
+    go None h g = cc
 
-negative_text : (s : List ℕ) (z : ℤ) → negative (unsigned_of s) ≡ S.Is z → (held true z ≡ true) × (render_signed z ≡ minus ∷ s)
+negative_text : (s : List ℕ) (z : ℤ) → option_and_then negative (unsigned_of s) ≡ Some z → (held true z ≡ true) × (render_signed z ≡ minus ∷ s)
 unfolding negative render_signed
 negative_text s z e = go (unsigned_of s) refl e
   where
-    go : (o : Number) → unsigned_of s ≡ o → negative o ≡ S.Is z → (held true z ≡ true) × (render_signed z ≡ minus ∷ s)
-    go (N.Is zero) h g = let q : ◌≡◌ {A = ℕ} 0 1 = cc in absurd (omega arith)
-    go (N.Is (suc n)) h g =
+    go : (o : Option ℕ) → unsigned_of s ≡ o → option_and_then negative o ≡ Some z → (held true z ≡ true) × (render_signed z ≡ minus ∷ s)
+    go (Some zero) h g = cc
+    go (Some (suc n)) h g =
         let q : z ≡ negsuc n = cc in
         rw q (held-negative n (number_lt s (suc n) h), ap (λ (l : List ℕ). minus ∷ l) (number_text s (suc n) h))
-    go N.Malformed h g = let q : ◌≡◌ {A = ℕ} 0 1 = cc in absurd (omega arith)
+    go None h g = cc
 
-figure_text : (signed : Bool) (s : List ℕ) (z : ℤ) → signed_of signed s ≡ S.Is z → (held signed z ≡ true) × (render_signed z ≡ s)
+figure_text : (signed : Bool) (s : List ℕ) (z : ℤ) → signed_of signed s ≡ Some z → (held signed z ≡ true) × (render_signed z ≡ s)
 unfolding signed_of
 figure_text signed s z e = go (eqb (get_or s 0 0) minus) signed refl e
   where
-    go : (a b : Bool) → eqb (get_or s 0 0) minus ≡ a → cond a (cond b (negative (unsigned_of (drop 1 s))) S.Malformed) (plain (unsigned_of s)) ≡ S.Is z
+    go : (a b : Bool) → eqb (get_or s 0 0) minus ≡ a → cond a (cond b (option_and_then negative (unsigned_of (drop 1 s))) None) (option_map pos (unsigned_of s)) ≡ Some z
         → (held b z ≡ true) × (render_signed z ≡ s)
     go true true h g =
         let t = negative_text (drop 1 s) z g in
         (t.0, t.1 ∙ first_rest s minus (eqb-true (get_or s 0 0) minus h) (omega arith))
-    go true false h g = let q : ◌≡◌ {A = ℕ} 0 1 = cc in absurd (omega arith)
+    go true false h g = cc
     go false b h g = plain_text b s z g
 
 -- ---- a field that is read
 -- what holds of every figure of this text holds of the field that is read as one
 module _ (signed : Bool) (s : List ℕ) (origin : ℤ → Field) (P : Field → Type 0) (each : (v : ℤ) → held signed v ≡ true → render_signed v ≡ s → P (origin v)) where
-  origin_text : (f : Field) → as_word origin (signed_of signed s) ≡ W.Is f → P f
-  unfolding as_word
+  origin_text : (f : Field) → option_map origin (signed_of signed s) ≡ Some f → P f
   origin_text f e = go (signed_of signed s) refl e
     where
-      go : (o : Signed) → signed_of signed s ≡ o → as_word origin o ≡ W.Is f → P f
-      go (S.Is v) h g =
+      go : (o : Option ℤ) → signed_of signed s ≡ o → option_map origin o ≡ Some f → P f
+      go (Some v) h g =
           let q : f ≡ origin v = cc in
           let t = figure_text signed s v h in
           rw q (each v t.0 t.1)
-      go S.Malformed h g = let q : ◌≡◌ {A = ℕ} 0 1 = cc in absurd (omega arith)
+      go None h g = cc
 
 -- a "-" alone
 blank_text : (s : List ℕ) → length s ≡ 1 → get_or s 0 0 ≡ minus → minus ∷ [] ≡ s
@@ -97,18 +93,18 @@ abbrev Text : Bool → List ℕ → Field → Type 0
 Text signed s f = (holds signed f ≡ true) × (field_text f ≡ s)
 
 module _ (signed : Bool) (s : List ℕ) (f : Field) where
-  pub field_text_lem : field_of signed s ≡ W.Is f → Text signed s f
+  pub field_text_lem : field_of signed s ≡ Some f → Text signed s f
   unfolding field_of holds field_text
   field_text_lem e = go (eqb (length s) 1) (eqb (get_or s 0 0) minus) refl refl e
     where
-      figure : (t : Bool) → eqb (get_or s 0 0) tilde ≡ t → cond t (as_word Inferred (signed_of signed (drop 1 s))) (as_word Measured (signed_of signed s)) ≡ W.Is f → Text signed s f
+      figure : (t : Bool) → eqb (get_or s 0 0) tilde ≡ t → cond t (option_map Inferred (signed_of signed (drop 1 s))) (option_map Measured (signed_of signed s)) ≡ Some f → Text signed s f
       figure true h g =
           let t = first_rest s tilde (eqb-true (get_or s 0 0) tilde h) (omega arith) in
           origin_text signed (drop 1 s) Inferred (Text signed s) (λ v k r. (k, ap (λ (l : List ℕ). tilde ∷ l) r ∙ t)) f g
       figure false h g = origin_text signed s Measured (Text signed s) (λ v k r. (k, r)) f g
 
       go : (a b : Bool) → eqb (length s) 1 ≡ a → eqb (get_or s 0 0) minus ≡ b
-          → cond (a && b) (W.Is Blank) (cond (eqb (get_or s 0 0) tilde) (as_word Inferred (signed_of signed (drop 1 s))) (as_word Measured (signed_of signed s))) ≡ W.Is f
+          → cond (a && b) (Some Blank) (cond (eqb (get_or s 0 0) tilde) (option_map Inferred (signed_of signed (drop 1 s))) (option_map Measured (signed_of signed s))) ≡ Some f
           → Text signed s f
       go true true h k g =
           let q : f ≡ Blank = cc in
@@ -124,13 +120,13 @@ held_fits true (pos n) e = (omega (arith, leb-true n 999999 e), λ h. refl)
 held_fits true (negsuc n) e = (omega (arith, leb-true n 999998 ((and-eq-true_iff (leb n 999998) true).0 e).0), λ h. refl)
 held_fits false (pos n) e =
     (omega (arith, leb-true n 999999 ((and-eq-true_iff (leb 0 n) (leb n 999999)).0 e).1), λ h. absurd (omega (arith, lt-parts (pos n) (pos 0) h)))
-held_fits false (negsuc n) e = let q : ◌≡◌ {A = ℕ} 0 1 = cc in absurd (omega arith)
+held_fits false (negsuc n) e = cc
 
-pub text_field : (signed : Bool) (f : Field) → holds signed f ≡ true → field_of signed (field_text f) ≡ W.Is f
+pub text_field : (signed : Bool) (f : Field) → holds signed f ≡ true → field_of signed (field_text f) ≡ Some f
 unfolding holds field_text field_of
 text_field signed (Measured v) e = let h = held_fits signed v e in field_back signed v h.0 h.1
 text_field signed (Inferred v) e = let h = held_fits signed v e in inferred-back signed v h.0 h.1
-text_field signed (Estimated v) e = let q : ◌≡◌ {A = ℕ} 0 1 = cc in absurd (omega arith)
+text_field signed (Estimated v) e = cc
 text_field signed Blank e = refl
 
 -- whatever it holds
@@ -157,6 +153,6 @@ pub field-length : (signed : Bool) (f : Field) → holds signed f ≡ true → (
 unfolding holds field_text
 field-length signed (Measured v) e = omega (arith, figure-length signed v e)
 field-length signed (Inferred v) e = omega (arith, figure-length signed v e)
-field-length signed (Estimated v) e = let q : ◌≡◌ {A = ℕ} 0 1 = cc in absurd (omega arith)
+field-length signed (Estimated v) e = cc
 field-length true Blank e = omega arith
 field-length false Blank e = omega arith

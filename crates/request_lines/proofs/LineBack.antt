@@ -4,7 +4,6 @@ use Prim.Native.Nat.{ℕ, zero, suc, ◌+◌, ◌*◌, ◌/◌, ◌%◌, ◌≤�
 use mathlib.Core.Path.{◌≡◌, refl, sym, ap, ◌∙◌}
 use mathlib.Core.Bool.{Bool, true, false, not, cond, ◌&&◌, and-eq-true_iff}
 use mathlib.Core.List.{List, [], ◌∷◌, ◌++◌, append-nil}
-use mathlib.Core.Option.{Option, none, some}
 use native.Mathlib.Omega.{arith}
 use native.Mathlib.Numerals.{add-one}
 use borrow.Author.Tests.{lt-ltb, le-ltb, ltb-true, eqb-true, ne_eqb}
@@ -12,15 +11,14 @@ use lib.Dec.{ltb, eqb}
 use lib.IntN.{ℤ, pos, negsuc}
 use lib.ListN.{length, get_or, take, drop, length-append}
 use lib.Seq.{split_at, take-append_seam, drop-append-add}
+use Rattle.std.specs.Prelude.{Option, Some, None}
+use Rattle.std.specs.Option.{option_map}
 use Rattle.request.specs.declared.Field.{Field}
 use Rattle.request.specs.declared.Field.TheVariants.{Measured, Inferred, Estimated, Blank}
 use Rattle.request.specs.declared.Request.{Request}
 use Rattle.numerals.specs.Render.{lf, space, digit0, render, render_signed}
 use Rattle.numerals.proofs.RenderLaws.{by_tenths, render-one, render-more}
-use Rattle.text.specs.declared.figures.Word.{Word}
-use Rattle.text.specs.declared.figures.Word.TheVariants as W
-use Rattle.text.specs.declared.read.Line.TheVariants as L
-use Rattle.text.specs.Grammar.{longest, field_of, space_at, signed_at, in_front, fields_of, request_of, to_line, line_of}
+use Rattle.text.specs.Grammar.{longest, field_of, space_at, signed_at, in_front, fields_of, request_of, line_of}
 use Rattle.text.proofs.RoundTrip.{space-past}
 use Rattle.fields.specs.Held.{fields_in, holds, hold_all, writable}
 use Rattle.fields.proofs.FieldsLaws.{request-back, thirteen, fields_back}
@@ -59,48 +57,48 @@ cut : (s : List ℕ) → space_at s < length s → take (space_at s) s ++ (space
 cut s h = rw (add-one (space_at s)) (ap (λ (c : ℕ). take (space_at s) s ++ (c ∷ drop (suc (space_at s)) s)) (sym (space-found s h)) ∙ sym (split_at s (space_at s) 0 h))
 
 -- the last of them, one in front of others, and so all
-last_text : (k : ℕ) (s : List ℕ) (fs : List Field) → in_front (field_of (signed_at k) s) (some []) ≡ some fs → Text 0 k s fs
+last_text : (k : ℕ) (s : List ℕ) (fs : List Field) → in_front (field_of (signed_at k) s) (Some []) ≡ Some fs → Text 0 k s fs
 unfolding in_front hold_all fields_text
 last_text k s fs e = go (field_of (signed_at k) s) refl e
   where
-    go : (w : Word) → field_of (signed_at k) s ≡ w → in_front w (some []) ≡ some fs → Text 0 k s fs
-    go (W.Is f) h g =
+    go : (w : Option Field) → field_of (signed_at k) s ≡ w → in_front w (Some []) ≡ Some fs → Text 0 k s fs
+    go (Some f) h g =
         let q : fs ≡ f ∷ [] = cc in
         let t = field_text_lem (signed_at k) s f h in
         rw q (rw t.0, append-nil (field_text f) ∙ t.1, refl)
-    go W.Malformed h g = let q : ◌≡◌ {A = ℕ} 0 1 = cc in absurd (omega arith)
+    go None h g = cc
 
-front_text : (n k : ℕ) (s t : List ℕ) (o : Option (List Field)) → ((gs : List Field) → o ≡ some gs → Text n (k + 1) t gs) →
-    (fs : List Field) → in_front (field_of (signed_at k) s) o ≡ some fs → Text (suc n) k (s ++ (space ∷ t)) fs
+front_text : (n k : ℕ) (s t : List ℕ) (o : Option (List Field)) → ((gs : List Field) → o ≡ Some gs → Text n (k + 1) t gs) →
+    (fs : List Field) → in_front (field_of (signed_at k) s) o ≡ Some fs → Text (suc n) k (s ++ (space ∷ t)) fs
 unfolding in_front hold_all fields_text
 front_text n k s t o h fs e = go (field_of (signed_at k) s) o refl h e
   where
-    go : (w : Word) (p : Option (List Field)) → field_of (signed_at k) s ≡ w → ((gs : List Field) → p ≡ some gs → Text n (k + 1) t gs)
-        → in_front w p ≡ some fs → Text (suc n) k (s ++ (space ∷ t)) fs
-    go (W.Is f) (some gs) e₁ h₁ g =
+    go : (w : Option Field) (p : Option (List Field)) → field_of (signed_at k) s ≡ w → ((gs : List Field) → p ≡ Some gs → Text n (k + 1) t gs)
+        → in_front w p ≡ Some fs → Text (suc n) k (s ++ (space ∷ t)) fs
+    go (Some f) (Some gs) e₁ h₁ g =
         let q : fs ≡ f ∷ gs = cc in
         let a = field_text_lem (signed_at k) s f e₁ in
         let b = h₁ gs refl in
         rw q (rw a.0 b.0, rw (a.1, more_text_lem n gs b.2, b.1), ap suc b.2)
-    go (W.Is f) none e₁ h₁ g = let q : ◌≡◌ {A = ℕ} 0 1 = cc in absurd (omega arith)
-    go W.Malformed p e₁ h₁ g = let q : ◌≡◌ {A = ℕ} 0 1 = cc in absurd (omega arith)
+    go (Some f) None e₁ h₁ g = cc
+    go None p e₁ h₁ g = cc
 
-fields_text_lem : (n k : ℕ) (s : List ℕ) (fs : List Field) → fields_of n k s ≡ some fs → Text n k s fs
+fields_text_lem : (n k : ℕ) (s : List ℕ) (fs : List Field) → fields_of n k s ≡ Some fs → Text n k s fs
 unfolding fields_of
 fields_text_lem zero k s fs e = last_text k s fs e
 fields_text_lem (suc n) k s fs e = go (ltb (space_at s) (length s)) refl (fields_text_lem n (k + 1) (drop (space_at s + 1) s)) e
   where
-    go : (t : Bool) → ltb (space_at s) (length s) ≡ t → ((gs : List Field) → fields_of n (k + 1) (drop (space_at s + 1) s) ≡ some gs → Text n (k + 1) (drop (space_at s + 1) s) gs)
-        → cond t (in_front (field_of (signed_at k) (take (space_at s) s)) (fields_of n (k + 1) (drop (space_at s + 1) s))) none ≡ some fs → Text (suc n) k s fs
+    go : (t : Bool) → ltb (space_at s) (length s) ≡ t → ((gs : List Field) → fields_of n (k + 1) (drop (space_at s + 1) s) ≡ Some gs → Text n (k + 1) (drop (space_at s + 1) s) gs)
+        → cond t (in_front (field_of (signed_at k) (take (space_at s) s)) (fields_of n (k + 1) (drop (space_at s + 1) s))) None ≡ Some fs → Text (suc n) k s fs
     go true h ih g =
         rw (cut s (ltb-true (space_at s) (length s) h)) at
         (front_text n k (take (space_at s) s) (drop (space_at s + 1) s) (fields_of n (k + 1) (drop (space_at s + 1) s)) ih fs g)
-    go false h ih g = let q : ◌≡◌ {A = ℕ} 0 1 = cc in absurd (omega arith)
+    go false h ih g = cc
 
 -- ---- fields that are written
 -- one in front of others, and so all
 front-fields : (n k : ℕ) (f : Field) (s : List ℕ) → holds (signed_at k) f ≡ true
-    → fields_of (suc n) k (field_text f ++ (space ∷ s)) ≡ in_front (W.Is f) (fields_of n (k + 1) s)
+    → fields_of (suc n) k (field_text f ++ (space ∷ s)) ≡ in_front (Some f) (fields_of n (k + 1) s)
 unfolding fields_of
 front-fields n k f s h =
     rw (
@@ -114,7 +112,7 @@ front-fields n k f s h =
     here : space_at (field_text f ++ (space ∷ s)) ≡ length (field_text f)
     here = first-space (field_text f) s (field_no_space f)
 
-text_fields : (n k : ℕ) (fs : List Field) → length fs ≡ suc n → hold_all k fs ≡ true → fields_of n k (fields_text fs) ≡ some fs
+text_fields : (n k : ℕ) (fs : List Field) → length fs ≡ suc n → hold_all k fs ≡ true → fields_of n k (fields_text fs) ≡ Some fs
 unfolding fields_of fields_text hold_all in_front
 text_fields zero k [] l e = absurd (omega arith)
 text_fields zero k (f ∷ []) l e =
@@ -125,7 +123,7 @@ text_fields (suc n) k [] l e = absurd (omega arith)
 text_fields (suc n) k (f ∷ fs) l e =
     let h = (and-eq-true_iff (holds (signed_at k) f) (hold_all (k + 1) fs)).0 e in
     let m : length fs ≡ suc n = omega arith in
-    rw (more_text_lem n fs m) (front-fields n k f (fields_text fs) h.0 ∙ ap (in_front (W.Is f)) (text_fields n (k + 1) fs m h.1))
+    rw (more_text_lem n fs m) (front-fields n k f (fields_text fs) h.0 ∙ ap (in_front (Some f)) (text_fields n (k + 1) fs m h.1))
 
 -- ---- how long they are
 -- the most bytes of n fields from k on, with a space before each
@@ -158,30 +156,30 @@ request_text : (fs : List Field) → length fs ≡ 13 → (writable (request_of 
 unfolding writable line_text
 request_text fs l = (ap (hold_all 0) (fields_back fs l), ap fields_text (fields_back fs l))
 
-pub line_is_text : (s : List ℕ) (r : Request) → line_of s ≡ L.Is r → (writable r ≡ true) × (line_text r ≡ s)
-unfolding line_of to_line
+pub line_is_text : (s : List ℕ) (r : Request) → line_of s ≡ Some r → (writable r ≡ true) × (line_text r ≡ s)
+unfolding line_of
 line_is_text s r e = go (ltb longest (length s)) (fields_of 12 0 s) (fields_text_lem 12 0 s) e
   where
-    go : (t : Bool) (o : Option (List Field)) → ((fs : List Field) → o ≡ some fs → Text 12 0 s fs) → cond t L.Malformed (to_line o) ≡ L.Is r
+    go : (t : Bool) (o : Option (List Field)) → ((fs : List Field) → o ≡ Some fs → Text 12 0 s fs) → cond t None (option_map request_of o) ≡ Some r
         → (writable r ≡ true) × (line_text r ≡ s)
-    go true o h g = let q : ◌≡◌ {A = ℕ} 0 1 = cc in absurd (omega arith)
-    go false none h g = let q : ◌≡◌ {A = ℕ} 0 1 = cc in absurd (omega arith)
-    go false (some fs) h g =
+    go true o h g = cc
+    go false None h g = cc
+    go false (Some fs) h g =
         let q : r ≡ request_of fs = cc in
         let t = h fs refl in
         let u = request_text fs t.2 in
         rw q (u.0 ∙ t.0, u.1 ∙ t.1)
 
-text_line : (fs : List Field) → length fs ≡ 13 → hold_all 0 fs ≡ true → line_of (fields_text fs) ≡ L.Is (request_of fs)
-unfolding line_of to_line
+text_line : (fs : List Field) → length fs ≡ 13 → hold_all 0 fs ≡ true → line_of (fields_text fs) ≡ Some (request_of fs)
+unfolding line_of
 text_line fs l e =
     rw (le-ltb longest (length (fields_text fs)) (omega (arith, fields-length fs l e)))
-    (ap to_line (text_fields 12 0 fs l e))
+    (ap (option_map request_of) (text_fields 12 0 fs l e))
 
 module _ (r : Request) (e : writable r ≡ true) where
-  pub text_is_line : line_of (line_text r) ≡ L.Is r
+  pub text_is_line : line_of (line_text r) ≡ Some r
   unfolding writable line_text
-  text_is_line = text_line (fields_in r) (thirteen r) e ∙ ap L.Is (request-back r)
+  text_is_line = text_line (fields_in r) (thirteen r) e ∙ ap Some (request-back r)
 
   pub text_length : (25 ≤ length (line_text r)) × (length (line_text r) ≤ 105)
   unfolding writable line_text

@@ -1,12 +1,12 @@
 -- A line and its LF as the first field and what follows it, one field more at a time. Assumes nothing.
 use Prim.Native.Nat.{ℕ, suc, ◌+◌, ◌≤◌, ◌<◌}
-use mathlib.Core.Path.{◌≡◌, ap}
+use mathlib.Core.Path.{◌≡◌, sym, ap, ◌∙◌}
 use mathlib.Core.List.{List, [], ◌∷◌, ◌++◌, append_assoc}
 use native.Mathlib.Omega.{arith}
 use native.Mathlib.Numerals.{add-one}
 use lib.IntN.{pos}
-use lib.ListN.{length, drop, drop_of_length-le}
-use lib.Seq.{drop-cons}
+use lib.ListN.{length, take, drop, length-append, length-drop, drop_of_length-le}
+use lib.Seq.{drop-cons, take_all}
 use Rattle.request.specs.declared.Field.{Field}
 use Rattle.request.specs.declared.Field.TheVariants.{Measured}
 use Rattle.request.specs.declared.Request.{Request}
@@ -42,3 +42,30 @@ fields-rest (f ∷ fs) h = append_assoc (field_text f) (more_text fs) (lf ∷ []
 pub line-rest : (r : Request) (fs : List Field) → fs ≡ fields_in r → line_text r ++ (lf ∷ []) ≡ field_text (field_at fs 0) ++ rest fs 1
 unfolding line_text
 line-rest r fs e = rw e (fields-rest (fields_in r) (omega (arith, thirteen r)))
+
+-- the same by the fields behind the first
+abbrev pub behind : List Field → List Field
+behind fs = take 12 (drop 1 fs)
+
+module _ (r : Request) (fs : List Field) (e : fs ≡ fields_in r) where
+  whole : behind fs ≡ drop 1 fs
+  whole = take_all 12 (drop 1 fs) (omega (arith, length-drop 1 fs, ap length e, thirteen r))
+
+  pub line-behind : line_text r ++ (lf ∷ []) ≡ field_text (field_at fs 0) ++ rest (behind fs) 0
+  line-behind = line-rest r fs e ∙ ap (λ (l : List Field). field_text (field_at fs 0) ++ (more_text l ++ (lf ∷ []))) (sym whole)
+
+  pub length-behind : length (behind fs) ≡ 12
+  length-behind = ap length whole ∙ omega (arith, length-drop 1 fs, ap length e, thirteen r)
+
+-- ---- how long they are
+-- a space or the LF stands beside each field
+pub rest_length : (fs : List Field) (k : ℕ) → k < length fs → length (rest fs k) ≡ length (field_text (field_at fs k)) + 1 + length (rest fs (k + 1))
+rest_length fs k h = ap length (rest-field fs k h) ∙ omega (arith, length-append (field_text (field_at fs k)) (rest fs (k + 1)))
+
+pub lf_length : (fs : List Field) (k : ℕ) → length fs ≤ k → length (rest fs k) ≡ 1
+lf_length fs k h = ap length (rest-lf fs k h)
+
+pub line_length : (r : Request) (fs : List Field) → fs ≡ fields_in r → (length fs ≡ 13) × (length (rest fs 0) ≡ length (line_text r ++ (lf ∷ [])) + 1)
+line_length r fs e =
+    let n : length fs ≡ 13 = ap length e ∙ thirteen r in
+    (n, omega (arith, ap length (rest-field fs 0 (omega arith)), ap length (line-rest r fs e)))

@@ -7,12 +7,13 @@ ghost use Rattle.lent.specs.Lent.{Written};
 ghost use Rattle.numerals.specs.Render.{lf};
 ghost use Rattle.request_lines.specs.RequestText.{field_text, line_text};
 
-use fields::{FIELDS, fields_of};
+use fields::fields_of;
 use lent::put_byte;
 use numerals::{put_signed, width};
 use request::{Field, Request};
 
 // One field.
+#[tactic(auto, using(lent::proofs::PutLaws::room_after), unfolding(crate::specs::RequestText::field_text))]
 fn put_field(b: &mut [u8], at: usize, f: Field) -> usize
     requires { at + length (field_text f) ≤ length b.old }
     ensures { Written b.old at (field_text f) result b.new }
@@ -29,6 +30,7 @@ fn put_field(b: &mut [u8], at: usize, f: Field) -> usize
 }
 
 // How many bytes put_field writes.
+#[tactic(auto, unfolding(crate::specs::RequestText::field_text))]
 fn field_length(f: Field) -> usize
     ensures { (result ≡ length (field_text f)) × (result ≤ 22) }
 {
@@ -45,27 +47,23 @@ pub fn put_line(b: &mut [u8], at: usize, r: Request) -> usize
     requires { at + length (line_text r ++ (lf ∷ [])) ≤ length b.old }
     ensures { Written b.old at (line_text r ++ (lf ∷ [])) result b.new }
 {
-    let f = fields_of(r);
-    let mut p = put_field(b, at, f[0]);
-    let mut k = 1usize;
-    while k < FIELDS {
+    let fields = fields_of(r);
+    let mut p = put_field(b, at, fields[0]);
+    for f in &fields[1..] {
         p = put_byte(b, p, b' ');
-        p = put_field(b, p, f[k]);
-        k += 1;
+        p = put_field(b, p, *f);
     }
     put_byte(b, p, b'\n')
 }
 
 // How many bytes put_line writes.
+#[tactic(auto, using(crate::proofs::RestLaws::rest_length, crate::proofs::RestLaws::lf_length, crate::proofs::RestLaws::line_length))]
 pub fn line_length(r: Request) -> usize
     ensures { (result ≡ length (line_text r ++ (lf ∷ []))) × (result ≤ 299) }
 {
-    let f = fields_of(r);
-    let mut n = field_length(f[0]);
-    let mut k = 1usize;
-    while k < FIELDS {
-        n += field_length(f[k]) + 1;
-        k += 1;
+    let mut n = 0;
+    for f in fields_of(r) {
+        n += field_length(f) + 1;
     }
-    n + 1
+    n
 }

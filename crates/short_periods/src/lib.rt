@@ -23,15 +23,10 @@ pub fn is_short(i: usize) -> bool
 pub fn not_below_pga(i: usize, own: Fine, pga: Fine) -> Fine
     ensures { result ≡ raised i own pga }
 {
-    let ln = own.ln;
-    let least = pga.ln;
-    if is_short(i) && ln < least {
+    if is_short(i) {
         return Fine {
-            ln: least,
-            intra: own.intra,
-            t: own.t,
-            total: own.total,
-            arbitrary: own.arbitrary,
+            ln: own.ln.max(pga.ln),
+            ..own
         };
     }
     own

@@ -1,5 +1,6 @@
 // What Table 3 alone fixes of each measure, so that no request spends a root on it. Every number is held to
-// the table by a computed test.
+// the table by a computed test. Each is a `match` since the compiler keeps one as constants, where an array
+// would be built anew for each call.
 ghost use Rattle.std.specs.Prelude.{◌≡◌, ◌<◌};
 ghost use Rattle.tables.specs.Tables.{measures, deviations_at};
 ghost use Rattle.model.specs.Fixed.{cross_fixed};

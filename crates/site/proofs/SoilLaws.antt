@@ -27,14 +27,13 @@ use Rattle.model.proofs.Sizes.{logarithms_size}
 abbrev pub soft_soil : ℕ → Scenario → Soil
 soft_soil k1 x =
     record {
-      k1 = k1;
       ratio = ln_quotient x.vs30 k1;
       gain = ln_fixed (rock_pga_fixed x + curve_fixed x.vs30 k1) -ℤ ln_fixed (rock_pga_fixed x + site_c_fixed);
       swing = pos (share_fixed (rock_pga_fixed x) (curve_fixed x.vs30 k1)) -ℤ pos (share_fixed (rock_pga_fixed x) site_c_fixed);
     }
 
 abbrev pub hard_soil : ℕ → Scenario → Soil
-hard_soil k1 x = record { k1 = k1; ratio = ln_quotient (least x.vs30 1100) k1; gain = pos 0; swing = pos 0 }
+hard_soil k1 x = record { ratio = ln_quotient (least x.vs30 1100) k1; gain = pos 0; swing = pos 0 }
 
 pub soft_soil_lem : (k1 : ℕ) (x : Scenario) → x.vs30 < k1 → soil_of k1 x ≡ soft_soil k1 x
 unfolding soil_of
@@ -53,9 +52,6 @@ soil_by P k1 x f g = go (ltb x.vs30 k1) refl
     go : (t : Bool) → ltb x.vs30 k1 ≡ t → P (soil_of k1 x)
     go true e = let h = ltb-true x.vs30 k1 e in subst P (sym (soft_soil_lem k1 x h)) (f h)
     go false e = let h = ltb-false x.vs30 k1 e in subst P (sym (hard_soil_lem k1 x h)) (g h)
-
-pub soil_k1 : (k1 : ℕ) (x : Scenario) → (soil_of k1 x).k1 ≡ k1
-soil_k1 k1 x = soil_by (λ (s : Soil). s.k1 ≡ k1) k1 x (λ h. refl) (λ h. refl)
 
 -- ---- sizes
 -- a share is at most one, and so is the difference of two

@@ -1,18 +1,12 @@
 // The rock's PGA, once for a request, with what is made of it.
-ghost use Rattle.std.specs.Prelude.{◌≡◌, ◌≤◌};
-ghost use Rattle.tables.specs.Tables.{PGA, coefficients_at};
-ghost use Rattle.model.specs.Accuracy.{InRange};
-ghost use Rattle.model.specs.Fixed.{rock_pga_fixed, share_fixed};
-ghost use Rattle.factors.specs.Factoring.{factors_of};
-ghost use Rattle.terms.specs.Paths.{path_of};
-ghost use Rattle.site.specs.Sharing.{rock_of};
+ghost use Rattle.std.specs.Prelude.{◌≡◌, ◌+◌, ◌≤◌};
+ghost use Rattle.fixed.specs.Fixed.{ln_fixed};
+ghost use Rattle.tables.specs.Tables.{PGA};
+ghost use Rattle.model.specs.Fixed.{rock_pga_fixed, site_c_fixed, share_fixed};
 
 use crate::C;
-use factors::Factors;
-use model::Scenario;
 use reckon::{E9, exp_fixed, ln_fixed};
-use tables::Coefficients;
-use terms::{Path, ln_sum};
+use terms::Measure;
 
 // c, in units of 10^-9.
 const SITE_C: u64 = C * 10_000_000;
@@ -27,6 +21,8 @@ pub struct Rock {
     pub pga: u64,
     pub log: i64,
     pub share: u64,
+    pub ghost log_is: { log ≡ ln_fixed (pga + site_c_fixed) },
+    pub ghost share_is: { share ≡ share_fixed pga site_c_fixed },
 }
 
 // a/(a + b).
@@ -37,22 +33,14 @@ pub fn share_of(a: u64, b: u64) -> u64
     a * E9 / (a + b)
 }
 
-// A1100: the median PGA at Vs30 = 1100, from PGA's own coefficients.
-fn rock_pga(c: Coefficients, x: Scenario, f: Factors, path: Path) -> u64
-    requires { (c ≡ coefficients_at PGA) × InRange x × (f ≡ factors_of x) × (path ≡ path_of c.c6 x) }
-    ensures { result ≡ rock_pga_fixed x }
+// The rock of a request, from its PGA: A1100 is the median PGA at Vs30 = 1100.
+pub fn rock_of(m: &Measure) -> Rock
+    requires { m.now.i ≡ PGA }
+    ensures { result.pga ≡ rock_pga_fixed m.now.f.now.x }
 {
-    exp_fixed(ln_sum(c, x, f, path, SITE_1100)) / 10
-}
-
-// All of them, from PGA's row of Table 2 and its path.
-pub fn rock_of(c: Coefficients, x: Scenario, f: Factors, path: Path) -> Rock
-    requires { (c ≡ coefficients_at PGA) × InRange x × (f ≡ factors_of x) × (path ≡ path_of c.c6 x) }
-    ensures { result ≡ rock_of x }
-{
-    let pga = rock_pga(c, x, f, path);
+    let pga = exp_fixed(m.ln_sum(SITE_1100)) / 10;
     Rock {
-        pga: pga,
+        pga,
         log: ln_fixed(pga + SITE_C),
         share: share_of(pga, SITE_C),
     }

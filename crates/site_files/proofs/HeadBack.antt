@@ -2,21 +2,21 @@
 use Prim.Native.Nat.{ℕ, ◌≤◌}
 use mathlib.Core.Path.{◌≡◌, refl, sym, ap, ◌∙◌}
 use mathlib.Core.Bool.{true, and-eq-true_iff}
-use mathlib.Core.List.{List, [], ◌∷◌, ◌++◌, append_assoc}
+use mathlib.Core.List.{List, ◌++◌, append_assoc}
 use native.Mathlib.Omega.{arith}
-use borrow.Author.Tests.{eqb-true}
-use lib.Dec.{eqb}
 use lib.ListN.{length, take, drop, length-drop, take-append-drop}
 use lib.Seq.{drop-drop, length-take-le}
+use Rattle.std.proofs.lemmas.Bool.Decides.{Decides-eqb}
+use Rattle.std.proofs.lemmas.Slice.Eq.{starts_is}
 use Rattle.numerals.specs.Render.{ascii}
 use Rattle.records.specs.Records.{are_bytes, high_first, number_from}
 use Rattle.records.proofs.NumberBack.{bytes-append, number_lt, bytes_back}
-use Rattle.site_files.specs.Format.{most_records, head_size, beginning, head_of, begins, is_marked, count_in}
+use Rattle.site_files.specs.Format.{most_records, head_size, beginning, head_of, is_marked, count_in}
 
 -- ---- written, and read
 module _ (n : ℕ) (s : List ℕ) where
   pub head_marked : is_marked (head_of n ++ s) ≡ true
-  unfolding is_marked begins beginning head_of ascii high_first
+  unfolding is_marked beginning head_of ascii high_first
   head_marked = refl
 
   pub head_count : n ≤ most_records → count_in (head_of n ++ s) ≡ n
@@ -32,21 +32,10 @@ unfolding head_of beginning ascii high_first
 length_head n = refl
 
 -- ---- read, and written
--- bytes that begin with others are those, and what follows
-begun : (xs s : List ℕ) → begins xs s ≡ true → xs ++ drop (length xs) s ≡ s
-unfolding begins
-begun [] s e = refl
-begun (x ∷ xs) [] e = let z : ◌≡◌ {A = ℕ} 0 1 = cc in absurd (omega arith)
-begun (x ∷ xs) (y ∷ ys) e =
-    let u = (and-eq-true_iff (eqb x y) (begins xs ys)).0 e in
-    let p = eqb-true x y u.0 in
-    let q = begun xs ys u.1 in
-    cc
-
 module _ (s : List ℕ) (marked : is_marked s ≡ true) (long : head_size ≤ length s) (are : are_bytes s ≡ true) where
   mark_first : beginning ++ drop 5 s ≡ s
   unfolding is_marked beginning ascii high_first
-  mark_first = begun beginning s marked
+  mark_first = sym ((starts_is Decides-eqb s beginning (is_marked s) refl).0 marked)
 
   rest-bytes : are_bytes (take 2 (drop 5 s)) ≡ true
   rest-bytes =

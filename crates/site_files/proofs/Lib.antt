@@ -1,7 +1,6 @@
 pub mod Pieces
 pub mod RecordsBack
 pub mod RecordSteps
-pub mod BeginsLaws
 pub mod HeadBack
 pub mod Inverse
 pub mod GivenLaws

@@ -2,20 +2,19 @@
 use Prim.Native.Nat.{ℕ}
 use mathlib.Core.Path.{◌≡◌, refl, sym, ap, ◌∙◌}
 use mathlib.Core.List.{List, [], ◌∷◌, ◌++◌, append_assoc}
+use Rattle.std.specs.Prelude.{Option, Some, None}
 use Rattle.request.specs.declared.Request.{Request}
 use Rattle.numerals.specs.Render.{lf}
-use Rattle.text.specs.declared.read.Line.{Line}
-use Rattle.text.specs.declared.read.Line.TheVariants as L
 use Rattle.request_lines.specs.RequestText.{line_text, list_text}
 use Rattle.records.specs.Records.{record_of}
 use Rattle.list_lines.specs.ListLines.{lines_of, requests_in}
 use Rattle.site_files.specs.Format.{records_of}
 
-requests-append : (ls ms : List Line) → requests_in (ls ++ ms) ≡ requests_in ls ++ requests_in ms
+requests-append : (ls ms : List (Option Request)) → requests_in (ls ++ ms) ≡ requests_in ls ++ requests_in ms
 unfolding requests_in
 requests-append [] ms = refl
-requests-append (L.Is r ∷ ls) ms = ap (λ (l : List Request). r ∷ l) (requests-append ls ms)
-requests-append (L.Malformed ∷ ls) ms = requests-append ls ms
+requests-append (Some r ∷ ls) ms = ap (λ (l : List Request). r ∷ l) (requests-append ls ms)
+requests-append (None ∷ ls) ms = requests-append ls ms
 
 records_join : (rs ss : List Request) → records_of (rs ++ ss) ≡ records_of rs ++ records_of ss
 unfolding records_of
@@ -28,10 +27,10 @@ text_join [] ss = refl
 text_join (r ∷ rs) ss =
     ap (λ (l : List ℕ). line_text r ++ (lf ∷ l)) (text_join rs ss) ∙ sym (append_assoc (line_text r) (lf ∷ list_text rs) (list_text ss))
 
-pub records_append : (ls ms : List Line) → records_of (requests_in (ls ++ ms)) ≡ records_of (requests_in ls) ++ records_of (requests_in ms)
+pub records_append : (ls ms : List (Option Request)) → records_of (requests_in (ls ++ ms)) ≡ records_of (requests_in ls) ++ records_of (requests_in ms)
 records_append ls ms = ap records_of (requests-append ls ms) ∙ records_join (requests_in ls) (requests_in ms)
 
-pub text_append : (ls ms : List Line) → list_text (requests_in (ls ++ ms)) ≡ list_text (requests_in ls) ++ list_text (requests_in ms)
+pub text_append : (ls ms : List (Option Request)) → list_text (requests_in (ls ++ ms)) ≡ list_text (requests_in ls) ++ list_text (requests_in ms)
 text_append ls ms = ap list_text (requests-append ls ms) ∙ text_join (requests_in ls) (requests_in ms)
 
 -- the records of a list's lines

@@ -7,9 +7,8 @@ use mathlib.Core.List.{List, [], ◌∷◌, ◌++◌}
 use native.Mathlib.Omega.{arith}
 use lib.ListN.{length, take, drop, length-append, length-drop, take-append-drop}
 use lib.Seq.{take_at, drop_at, length-take-le}
+use Rattle.std.specs.Prelude.{Option, Some, None}
 use Rattle.request.specs.declared.Request.{Request}
-use Rattle.text.specs.declared.read.Line.{Line}
-use Rattle.text.specs.declared.read.Line.TheVariants as L
 use Rattle.fields.specs.Held.{writable}
 use Rattle.records.specs.Records.{are_bytes, record_size, record_of, record_in}
 use Rattle.records.proofs.NumberBack.{bytes-append}
@@ -29,7 +28,7 @@ unfolding records_in records_of all_writable read
 records_read [] e = refl
 records_read (r ∷ rs) e =
     let u = (and-eq-true_iff (writable r) (all_writable rs)).0 e in
-    let a : record_in (take record_size (record_of r ++ records_of rs)) ≡ L.Is r =
+    let a : record_in (take record_size (record_of r ++ records_of rs)) ≡ Some r =
     ap record_in (take_at (record_of r) (records_of rs) record_size (length_record r)) ∙ record_back r u.0
     in
     let b : records_in (length rs) (drop record_size (record_of r ++ records_of rs)) ≡ read rs =
@@ -50,22 +49,22 @@ unfolding records_in all_read requests_in all_writable
 records_writable zero s h = refl
 records_writable (suc n) s h = go (record_in (take record_size s)) refl h (records_writable n (drop record_size s))
   where
-    go : (l : Line) → record_in (take record_size s) ≡ l
+    go : (l : Option Request) → record_in (take record_size s) ≡ l
         → let ls = l ∷ records_in n (drop record_size s) in
         all_read ls ≡ true → (all_read (records_in n (drop record_size s)) ≡ true → all_writable (requests_in (records_in n (drop record_size s))) ≡ true)
         → all_writable (requests_in ls) ≡ true
-    go (L.Is r) e h ih = rw (record_writable (take record_size s) r e) (ih h)
-    go L.Malformed e h ih = let z : ◌≡◌ {A = ℕ} 0 1 = cc in absurd (omega arith)
+    go (Some r) e h ih = rw (record_writable (take record_size s) r e) (ih h)
+    go None e h ih = let z : ◌≡◌ {A = ℕ} 0 1 = cc in absurd (omega arith)
 
 -- bytes s all of whose records are well-formed are those of their requests
-abbrev Bytes : List ℕ → List Line → Type 0
+abbrev Bytes : List ℕ → List (Option Request) → Type 0
 Bytes s ls = all_read ls ≡ true → records_of (requests_in ls) ≡ s
 
-one_more : (s rest : List ℕ) (l : Line) (ls : List Line) → length s ≡ record_size → are_bytes s ≡ true → record_in s ≡ l → Bytes rest ls → Bytes (s ++ rest) (l ∷ ls)
+one_more : (s rest : List ℕ) (l : Option Request) (ls : List (Option Request)) → length s ≡ record_size → are_bytes s ≡ true → record_in s ≡ l → Bytes rest ls → Bytes (s ++ rest) (l ∷ ls)
 unfolding all_read requests_in records_of
-one_more s rest (L.Is r) ls k a e t h =
+one_more s rest (Some r) ls k a e t h =
     ap (λ (l : List ℕ). l ++ records_of (requests_in ls)) (bytes_of_record s r k a e) ∙ ap (λ (l : List ℕ). s ++ l) (t h)
-one_more s rest L.Malformed ls k a e t h = let z : ◌≡◌ {A = ℕ} 0 1 = cc in absurd (omega arith)
+one_more s rest None ls k a e t h = let z : ◌≡◌ {A = ℕ} 0 1 = cc in absurd (omega arith)
 
 pub records_bytes : (n : ℕ) (s : List ℕ) → length s ≡ record_size * n → are_bytes s ≡ true → Bytes s (records_in n s)
 unfolding records_in all_read requests_in records_of

@@ -1,9 +1,9 @@
 // The bytes before a file's records: the mark, the version and the count.
 ghost use Rattle.std.specs.Prelude.{◌≡◌, ◌+◌, ◌≤◌, length};
 ghost use Rattle.lent.specs.Lent.{Written};
-ghost use Rattle.site_files.specs.Format.{head_size, most_records, head_of, begins, is_marked, count_in};
+ghost use Rattle.site_files.specs.Format.{head_size, most_records, head_of, is_marked, count_in};
 
-use lent::put_text;
+use lent::put_slice;
 use records::{put_short, short_at};
 
 // How many bytes stand before the records.
@@ -17,26 +17,9 @@ pub fn put_head(b: &mut [u8], count: u64) -> usize
     requires { head_size ≤ length b.old }
     ensures { Written b.old 0 (head_of count) result b.new }
 {
-    let p = put_text(b, 0, b"GMQ");
+    let p = put_slice(b, 0, b"GMQ");
     let q = put_short(b, p, 1);
     put_short(b, q, count)
-}
-
-// Whether bytes begin with others.
-fn begins_with(s: &[u8], t: &[u8]) -> bool
-    ensures { result ≡ begins t.now s.now }
-{
-    let mut i = 0usize;
-    while i < t.len() {
-        if s.len() <= i {
-            return false;
-        }
-        if s[i] != t[i] {
-            return false;
-        }
-        i += 1;
-    }
-    true
 }
 
 // Whether a file has the mark and the version.
@@ -44,7 +27,7 @@ fn begins_with(s: &[u8], t: &[u8]) -> bool
 pub fn is_marked(s: &[u8]) -> bool
     ensures { result ≡ is_marked s.now }
 {
-    begins_with(s, &[b'G', b'M', b'Q', 0, 1])
+    s.starts_with(&[b'G', b'M', b'Q', 0, 1])
 }
 
 // The count of a file's records.

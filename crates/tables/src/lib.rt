@@ -11,7 +11,8 @@ pub use periods::period_at;
 pub use table2::coefficients_at;
 pub use table3::deviations_at;
 
-// How many measures there are: the 21 periods, PGA, PGV, PGD.
+// How many measures there are: the 21 periods, PGA, PGV, PGD. A measure is told by its number: a type for it would
+// have each loop and each call from outside make one first, and be no plainer.
 pub const MEASURES: usize = 24;
 
 // How many of them, from the first on, are periods.
@@ -20,7 +21,7 @@ pub const PERIODS: usize = 21;
 // PGA's number among them.
 pub const PGA: usize = 21;
 
-// A row of Table 2, each field under the paper's name.
+// A row of Table 2, each field under the paper's name. Plain: the definitions make one past the last row too.
 #[derive(Clone, Copy)]
 pub struct Coefficients {
     pub c0: i16,

@@ -2,7 +2,7 @@
 ghost use Rattle.std.specs.Prelude.{◌≡◌, ◌<◌, length};
 ghost use Rattle.tables.specs.Tables.{periods, period_at};
 
-// The period of a measure from 0 to 20, in thousandths of a second.
+// The period of a measure from 0 to 20, in thousandths of a second. By its number, as Table 2.
 pub fn period_at(i: usize) -> u64
     requires { i < length periods }
     ensures { result ≡ period_at i }

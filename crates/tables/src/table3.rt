@@ -4,7 +4,7 @@ ghost use Rattle.tables.specs.Tables.{measures, deviations_at};
 
 use crate::Deviations;
 
-// The row of a measure, as in Table 2.
+// The row of a measure, by its number as in Table 2.
 #[tactic(auto, unfolding(crate::specs::Tables::deviations_at, crate::specs::Tables::table3))]
 pub fn deviations_at(i: usize) -> Deviations
     requires { i < measures }

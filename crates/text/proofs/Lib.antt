@@ -1,6 +1,5 @@
 pub mod NumberLaws
 pub mod FigureLaws
-pub mod SpaceLaws
 pub mod FieldLaws
 pub mod RoundTrip
 pub mod NotEstimated

@@ -2,16 +2,16 @@
 use Prim.Native.Nat.{ℕ}
 use Prim.Native.String.{String}
 use mathlib.Core.Path.{◌≡◌, refl}
-use mathlib.Core.Bool.{Bool, true, false, ◌&&◌}
+use mathlib.Core.Bool.{Bool, true, ◌&&◌}
 use mathlib.Core.List.{List, [], ◌∷◌}
 use lib.IntN.{pos, negsuc}
 use lib.ListN.{length}
+use Rattle.std.specs.Prelude.{Some}
+use Rattle.std.specs.Option.{is_none}
 use Rattle.request.specs.declared.Field.TheVariants.{Measured, Inferred, Blank}
 use Rattle.request.specs.declared.Request.{Request}
-use Rattle.text.specs.declared.read.Line.{Line}
-use Rattle.text.specs.declared.read.Line.TheVariants as L
-use Rattle.numerals.specs.Plain.{is_digit}
-use Rattle.text.specs.Grammar.{digits_of, unsigned_of, plain, negative, signed_of, as_word, field_of, space_at, signed_at, in_front, fields_of, request_of, to_line, line_of}
+use Rattle.numerals.specs.Plain.{is_digit, digits_of}
+use Rattle.text.specs.Grammar.{unsigned_of, negative, signed_of, field_of, space_at, signed_at, in_front, fields_of, request_of, line_of}
 use Rattle.numerals.specs.Render.{ascii}
 
 -- document 01's first line
@@ -93,20 +93,16 @@ most =
 abbrev most_text : List ℕ
 most_text = ascii "~999999 ~-999999 ~999999 ~999999 ~999999 ~999999 ~999999 ~999999 ~-999999 ~999999 ~999999 ~999999 ~999999"
 
-abbrev is_malformed : Line → Bool
-is_malformed (L.Is r) = false
-is_malformed L.Malformed = true
-
 abbrev all_malformed : List String → Bool
 all_malformed [] = true
-all_malformed (t ∷ ts) = is_malformed (line_of (ascii t)) && all_malformed ts
+all_malformed (t ∷ ts) = is_none (line_of (ascii t)) && all_malformed ts
 
 examples :
-    (line_of (ascii "650 0 760 - 10000 - 3000 4000 30 - - - 2000") ≡ L.Is first)
-    × (line_of (ascii "- -180 - 0 999999 1 - - -1 - - - -") ≡ L.Is signs)
-    × (line_of (ascii "~650 ~-90 ~760 ~40 ~10000 ~0 ~3000 ~4000 ~30 ~5000 ~100 ~200 ~2000") ≡ L.Is inferred)
+    (line_of (ascii "650 0 760 - 10000 - 3000 4000 30 - - - 2000") ≡ Some first)
+    × (line_of (ascii "- -180 - 0 999999 1 - - -1 - - - -") ≡ Some signs)
+    × (line_of (ascii "~650 ~-90 ~760 ~40 ~10000 ~0 ~3000 ~4000 ~30 ~5000 ~100 ~200 ~2000") ≡ Some inferred)
     × (length most_text ≡ 105)
-    × (line_of most_text ≡ L.Is most)
+    × (line_of most_text ≡ Some most)
     × (all_malformed (
     -- no byte
     ""
@@ -150,5 +146,5 @@ examples :
     ∷ "650 0 760 - 10000 - 3000 4000 30 - - - 2000\r"
     ∷ [])
     ≡ true)
-unfolding is_digit digits_of unsigned_of plain negative signed_of as_word field_of space_at signed_at in_front fields_of request_of to_line line_of ascii
+unfolding is_digit digits_of unsigned_of negative signed_of field_of space_at signed_at in_front fields_of request_of line_of ascii
 examples = (refl, refl, refl, refl, refl, refl)

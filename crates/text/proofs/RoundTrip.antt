@@ -1,54 +1,25 @@
 -- What was written, read back: a number's digits stand for the number, whatever its size; a figure that the grammar allows, written and read
 -- as a field, is measured as that figure, and inferred as it with a "~" before it; and no rendered number has a space in it. Each law of
 -- digits goes from a number's tenth to the number. Assumes nothing.
-use Prim.Native.Nat.{ℕ, suc, ◌+◌, ◌-◌, ◌*◌, ◌/◌, ◌%◌, ◌≤◌, ◌<◌}
+use Prim.Native.Nat.{ℕ, suc, ◌+◌, ◌/◌, ◌%◌, ◌≤◌, ◌<◌}
 use mathlib.Core.Path.{◌≡◌, refl, ap, ◌∙◌}
 use mathlib.Core.Bool.{Bool, true, false, ◌&&◌, cond, and-false}
 use mathlib.Core.List.{List, [], ◌∷◌, ◌++◌}
 use native.Mathlib.Omega.{arith}
-use borrow.Author.Tests.{le-ltb, ne_eqb, le-leb}
+use borrow.Author.Tests.{le-ltb, ne_eqb}
 use lib.Dec.{eqb}
 use lib.IntN.{ℤ, pos, negsuc, nat_abs}
 use lib.ListN.{length, get_or, length-append, get_or-append}
 use lib.Signed.{lt_z}
+use Rattle.std.specs.Prelude.{Some}
+use Rattle.std.specs.Option.{option_map, option_and_then}
 use Rattle.request.specs.declared.Field.TheVariants.{Measured, Inferred}
-use Rattle.text.specs.declared.figures.Number.TheVariants as N
-use Rattle.text.specs.declared.figures.Signed.TheVariants as S
-use Rattle.text.specs.declared.figures.Word.TheVariants as W
 use Rattle.numerals.specs.Render.{space, minus, digit0, digit9, render, render_signed}
-use Rattle.numerals.specs.Plain.{is_digit}
-use Rattle.text.specs.Grammar.{tilde, digits_of, unsigned_of, plain, negative, signed_of, as_word, field_of, space_at}
+use Rattle.text.specs.Grammar.{tilde, unsigned_of, negative, signed_of, field_of, space_at}
 use Rattle.text.specs.ReadBack.{signed_back}
 use Rattle.text.proofs.FigureLaws.{minus-taken, no_minus, tilde-taken, no_tilde}
+pub use Rattle.numerals.proofs.PlainBack.{digits_back}
 use Rattle.numerals.proofs.RenderLaws.{by_tenths, render-one, render-more, length-render, some-digit, no_zero_more}
-
--- ---- the digits of any number
--- one digit more
-module _ (d : ℕ) (small : d < 10) where
-  digit : is_digit (digit0 + d) ≡ true
-  unfolding is_digit
-  digit = rw (le-leb digit0 (digit0 + d) (omega arith), le-leb (digit0 + d) digit9 (omega arith))
-
-  last-digit : (n : ℕ) → digits_of n ((digit0 + d) ∷ []) ≡ N.Is (n * 10 + d)
-  unfolding digits_of
-  last-digit n = rw digit (ap (λ (k : ℕ). N.Is (n * 10 + k)) (omega arith))
-
-  more_digits : (n : ℕ) (s : List ℕ) (v : ℕ) → digits_of n s ≡ N.Is v → digits_of n (s ++ ((digit0 + d) ∷ [])) ≡ N.Is (v * 10 + d)
-  unfolding digits_of
-  more_digits n [] v e = let z : n ≡ v = cc in rw z (last-digit v)
-  more_digits n (c ∷ cs) v e = go (is_digit c) (more_digits (n * 10 + (c - digit0)) cs v) e
-    where
-      go : (t : Bool) → (digits_of (n * 10 + (c - digit0)) cs ≡ N.Is v → digits_of (n * 10 + (c - digit0)) (cs ++ ((digit0 + d) ∷ [])) ≡ N.Is (v * 10 + d))
-          → cond t (digits_of (n * 10 + (c - digit0)) cs) N.Malformed ≡ N.Is v
-          → cond t (digits_of (n * 10 + (c - digit0)) (cs ++ ((digit0 + d) ∷ []))) N.Malformed ≡ N.Is (v * 10 + d)
-      go true ih g = ih g
-      go false ih g = let z : ◌≡◌ {A = ℕ} 0 1 = cc in absurd (omega arith)
-
-pub digits_back : (n : ℕ) → digits_of 0 (render n) ≡ N.Is n
-digits_back =
-    by_tenths (λ n. digits_of 0 (render n) ≡ N.Is n)
-    (λ n h. rw (render-one n h) (last-digit n h 0 ∙ ap N.Is (omega arith)))
-    (λ n h ih. rw (render-more n h) (more_digits (n % 10) (omega arith) 0 (render (n / 10)) (n / 10) ih ∙ ap N.Is (omega arith)))
 
 -- ---- its first byte, and its length
 first_of_more : (n : ℕ) → 10 ≤ n → get_or (render n) 0 0 ≡ get_or (render (n / 10)) 0 0
@@ -63,7 +34,7 @@ first-digit =
 -- ---- as a field
 -- a number that the grammar allows
 module _ (n : ℕ) (small : n < 1000000) where
-  pub number_back : unsigned_of (render n) ≡ N.Is n
+  pub number_back : unsigned_of (render n) ≡ Some n
   unfolding unsigned_of
   number_back =
       rw (
@@ -73,12 +44,12 @@ module _ (n : ℕ) (small : n < 1000000) where
       ) (digits_back n)
 
 -- a figure of either sign, where a minus sign is allowed
-pub figure-back : (signed : Bool) (z : ℤ) → nat_abs z < 1000000 → (lt_z z (pos 0) ≡ true → signed ≡ true) → signed_of signed (render_signed z) ≡ S.Is z
-unfolding render_signed plain negative
+pub figure-back : (signed : Bool) (z : ℤ) → nat_abs z < 1000000 → (lt_z z (pos 0) ≡ true → signed ≡ true) → signed_of signed (render_signed z) ≡ Some z
+unfolding render_signed negative
 figure-back signed (pos n) h k =
-    no_minus signed (render n) (λ e. omega (arith, first-digit n)) ∙ ap plain (number_back n h)
+    no_minus signed (render n) (λ e. omega (arith, first-digit n)) ∙ ap (option_map pos) (number_back n h)
 figure-back signed (negsuc n) h k =
-    minus-taken signed (minus ∷ render (suc n)) refl (k refl) ∙ ap negative (number_back (suc n) h)
+    minus-taken signed (minus ∷ render (suc n)) refl (k refl) ∙ ap (option_and_then negative) (number_back (suc n) h)
 
 -- is not blank
 not_blank : (z : ℤ) → eqb (length (render_signed z)) 1 && eqb (get_or (render_signed z) 0 0) minus ≡ false
@@ -94,17 +65,15 @@ not_inferred (negsuc n) e = omega arith
 
 -- and so measured as it was, and inferred as it was with a "~" before it
 module _ (signed : Bool) (z : ℤ) (h : nat_abs z < 1000000) (k : lt_z z (pos 0) ≡ true → signed ≡ true) where
-  pub field_back : field_of signed (render_signed z) ≡ W.Is (Measured z)
-  unfolding as_word
-  field_back = no_tilde signed (render_signed z) (not_blank z) (not_inferred z) ∙ ap (as_word Measured) (figure-back signed z h k)
+  pub field_back : field_of signed (render_signed z) ≡ Some (Measured z)
+  field_back = no_tilde signed (render_signed z) (not_blank z) (not_inferred z) ∙ ap (option_map Measured) (figure-back signed z h k)
 
-  pub inferred-back : field_of signed (tilde ∷ render_signed z) ≡ W.Is (Inferred z)
-  unfolding as_word
-  inferred-back = tilde-taken signed (tilde ∷ render_signed z) refl ∙ ap (as_word Inferred) (figure-back signed z h k)
+  pub inferred-back : field_of signed (tilde ∷ render_signed z) ≡ Some (Inferred z)
+  inferred-back = tilde-taken signed (tilde ∷ render_signed z) refl ∙ ap (option_map Inferred) (figure-back signed z h k)
 
 -- ---- a figure of any size
-pub signed_back_lem : (z : ℤ) → signed_back (render_signed z) ≡ S.Is z
-unfolding render_signed signed_back plain negative
+pub signed_back_lem : (z : ℤ) → signed_back (render_signed z) ≡ Some z
+unfolding render_signed signed_back negative
 signed_back_lem (pos n) = rw (ne_eqb (get_or (render n) 0 0) minus (λ e. omega (arith, first-digit n)), digits_back n)
 signed_back_lem (negsuc n) = rw (digits_back (suc n))
 

@@ -1,62 +1,40 @@
 -- The text form of a request, as document 01 gives it under "The request": the bytes of a line, its LF not among them, to the
 -- request that they stand for. Definitions only.
-use Rattle.std.specs.Prelude.{ℕ, zero, suc, ◌+◌, ◌-◌, ◌*◌, Bool, cond, ◌&&◌, ◌||◌, List, [], ◌∷◌, ltb, eqb, ℤ, pos, negsuc, length, get_or, take, drop}
-use Rattle.std.proofs.Math.Option.{Option, none, some}
-use Rattle.refusals.specs.Order as No
+use Rattle.std.specs.Prelude.{ℕ, zero, suc, ◌+◌, Bool, cond, ◌&&◌, ◌||◌, List, [], ◌∷◌, ltb, eqb, ℤ, pos, negsuc, length, get_or, take, drop, Option, Some, None}
+use Rattle.std.specs.Option.{option_map, option_and_then}
 use Rattle.request.specs.declared.Field.{Field}
 use Rattle.request.specs.declared.Field.TheVariants.{Measured, Inferred, Blank}
 use Rattle.request.specs.declared.Request.{Request}
 use Rattle.numerals.specs.Render.{space, minus, digit0}
-use Rattle.numerals.specs.Plain.{is_digit}
-use Rattle.text.specs.declared.figures.Number.{Number}
-use Rattle.text.specs.declared.figures.Number.TheVariants as N
-use Rattle.text.specs.declared.figures.Signed.{Signed}
-use Rattle.text.specs.declared.figures.Signed.TheVariants as S
-use Rattle.text.specs.declared.figures.Word.{Word}
-use Rattle.text.specs.declared.figures.Word.TheVariants as W
-use Rattle.text.specs.declared.read.Line.{Line}
-use Rattle.text.specs.declared.read.Line.TheVariants as L
+unfoldable pub use Rattle.numerals.specs.Plain.{digits_of}
 
 -- ---- one field
 -- the byte "~", which stands directly before an inferred figure
 abbrev pub tilde : ℕ
 tilde = 126
 
--- the number that digits stand for, after those that make n
-unfoldable pub digits_of : ℕ → List ℕ → Number
-digits_of n [] = N.Is n
-digits_of n (c ∷ cs) = cond (is_digit c) (digits_of (n * 10 + (c - digit0)) cs) N.Malformed
-
 -- a number has 1 to 6 digits, no leading zero (0 itself allowed)
-unfoldable pub unsigned_of : List ℕ → Number
+unfoldable pub unsigned_of : List ℕ → Option ℕ
 unsigned_of s =
-    cond (eqb (length s) 0 || ltb 6 (length s) || ltb 1 (length s) && eqb (get_or s 0 0) digit0) N.Malformed (digits_of 0 s)
-
--- the number as it stands
-unfoldable pub plain : Number → Signed
-plain (N.Is n) = S.Is (pos n)
-plain N.Malformed = S.Malformed
+    cond (eqb (length s) 0 || ltb 6 (length s) || ltb 1 (length s) && eqb (get_or s 0 0) digit0) None (digits_of 0 s)
 
 -- the number after a minus sign: never "-0"
-unfoldable pub negative : Number → Signed
-negative (N.Is zero) = S.Malformed
-negative (N.Is (suc n)) = S.Is (negsuc n)
-negative N.Malformed = S.Malformed
+unfoldable pub negative : ℕ → Option ℤ
+negative zero = None
+negative (suc n) = Some (negsuc n)
 
 -- a number, after a minus sign where the field may have one
-unfoldable pub signed_of : Bool → List ℕ → Signed
-signed_of signed s = cond (eqb (get_or s 0 0) minus) (cond signed (negative (unsigned_of (drop 1 s))) S.Malformed) (plain (unsigned_of s))
-
--- such a number as a field, by where it came from
-unfoldable pub as_word : (ℤ → Field) → Signed → Word
-as_word origin (S.Is v) = W.Is (origin v)
-as_word origin S.Malformed = W.Malformed
+unfoldable pub signed_of : Bool → List ℕ → Option ℤ
+signed_of signed s =
+    cond (eqb (get_or s 0 0) minus)
+    (cond signed (option_and_then negative (unsigned_of (drop 1 s))) None)
+    (option_map pos (unsigned_of s))
 
 -- blank is one "-"; a figure is inferred with a "~" before it and its sign, and measured without; an estimated one cannot be written
-unfoldable pub field_of : Bool → List ℕ → Word
+unfoldable pub field_of : Bool → List ℕ → Option Field
 field_of signed s =
-    cond (eqb (length s) 1 && eqb (get_or s 0 0) minus) (W.Is Blank)
-    (cond (eqb (get_or s 0 0) tilde) (as_word Inferred (signed_of signed (drop 1 s))) (as_word Measured (signed_of signed s)))
+    cond (eqb (length s) 1 && eqb (get_or s 0 0) minus) (Some Blank)
+    (cond (eqb (get_or s 0 0) tilde) (option_map Inferred (signed_of signed (drop 1 s))) (option_map Measured (signed_of signed s)))
 
 -- ---- the line
 -- the most bytes that a line has before its LF
@@ -73,18 +51,17 @@ unfoldable pub signed_at : ℕ → Bool
 signed_at k = eqb k 1 || eqb k 8
 
 -- one field more in front, if it and all behind it are well-formed
-unfoldable pub in_front : Word → Option (List Field) → Option (List Field)
-in_front (W.Is f) (some fs) = some (f ∷ fs)
-in_front (W.Is f) none = none
-in_front W.Malformed fs = none
+unfoldable pub in_front : Option Field → Option (List Field) → Option (List Field)
+in_front (Some f) fs = option_map (λ rest. f ∷ rest) fs
+in_front None fs = None
 
 -- from field k on: n fields with one space after each, and one more that takes all the rest
 unfoldable pub fields_of : ℕ → ℕ → List ℕ → Option (List Field)
-fields_of zero k s = in_front (field_of (signed_at k) s) (some [])
+fields_of zero k s = in_front (field_of (signed_at k) s) (Some [])
 fields_of (suc n) k s =
     cond (ltb (space_at s) (length s))
     (in_front (field_of (signed_at k) (take (space_at s) s)) (fields_of n (k + 1) (drop (space_at s + 1) s)))
-    none
+    None
 
 -- field k of thirteen; past the last stands a default that is never read
 abbrev pub field_at : List Field → ℕ → Field
@@ -109,16 +86,6 @@ request_of f =
       z25 = field_at f 12;
     }
 
--- all thirteen, or no line
-unfoldable pub to_line : Option (List Field) → Line
-to_line (some f) = L.Is (request_of f)
-to_line none = L.Malformed
-
 -- the line: twelve fields with a space after each, and a thirteenth
-unfoldable pub line_of : List ℕ → Line
-line_of s = cond (ltb longest (length s)) L.Malformed (to_line (fields_of 12 0 s))
-
--- the refusal's number, 0 for none
-abbrev pub number_of : Line → ℕ
-number_of (L.Is r) = 0
-number_of L.Malformed = No.malformed
+unfoldable pub line_of : List ℕ → Option Request
+line_of s = cond (ltb longest (length s)) None (option_map request_of (fields_of 12 0 s))

@@ -5,5 +5,4 @@
 mod figures;
 mod read;
 
-pub use figures::Word;
-pub use read::{LONGEST, Line, read_line, request_of, signed_at};
+pub use read::{LONGEST, read_line, request_of, signed_at};

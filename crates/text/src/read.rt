@@ -1,36 +1,25 @@
 // A line, cut at its spaces into thirteen fields.
-ghost use Rattle.std.specs.Prelude.{◌≡◌, ◌+◌, ◌≤◌, length, drop};
+ghost use Rattle.std.specs.Prelude.{◌≡◌, ◌+◌, ◌<◌, length, take, drop, MatchOption};
 ghost use Rattle.text.specs.Grammar.{space_at, signed_at, request_of, line_of};
 
-use crate::figures::{Word, read_field};
+use crate::figures::read_field;
 use request::{Field, Request};
 
 // The most bytes that a line has before its LF.
 pub const LONGEST: usize = 115;
 
-// What a line stands for.
-#[derive(Drop)]
-pub enum Line {
-    Is(Request),
-    Malformed,
-}
-
-// The place of the first space from `at` on, or the length.
-fn space_from(s: &[u8], at: usize) -> usize
-    requires { at ≤ length s.now }
-    ensures { (result ≡ at + space_at (drop at s.now)) × (result ≤ length s.now) }
+// The bytes before the first space and those behind it, if there is one.
+fn cut(s: &[u8]) -> Option<(&[u8], &[u8])>
+    ensures { let n = space_at s.now in
+        MatchOption result (n ≡ length s.now)
+        (λ p. (n < length s.now) × (p.0.now ≡ take n s.now) × (p.1.now ≡ drop (n + 1) s.now)) }
 {
-    let mut i = at;
-    while i < s.len() {
-        if s[i] == b' ' {
-            return i;
-        }
-        i += 1;
-    }
-    i
+    let end = s.iter().position(|c| *c == b' ')?;
+    Some((&s[..end], &s[end + 1..]))
 }
 
 // Whether a field, numbered from 0, may have a minus sign: rake and azimuth.
+#[tactic(auto, unfolding(crate::specs::Grammar::signed_at))]
 pub fn signed_at(k: usize) -> bool
     ensures { result ≡ signed_at k }
 {
@@ -38,22 +27,25 @@ pub fn signed_at(k: usize) -> bool
 }
 
 // The request of thirteen fields in their order.
+#[tactic(auto, unfolding(crate::specs::Grammar::request_of))]
 pub fn request_of(f: [Field; 13]) -> Request
     ensures { result ≡ request_of f }
 {
-    let m = f[0];
-    let rake = f[1];
-    let vs30 = f[2];
-    let dip = f[3];
-    let w = f[4];
-    let zhyp = f[5];
-    let ztor = f[6];
-    let rjb = f[7];
-    let azimuth = f[8];
-    let rrup = f[9];
-    let z10 = f[10];
-    let z15 = f[11];
-    let z25 = f[12];
+    let [
+        m,
+        rake,
+        vs30,
+        dip,
+        w,
+        zhyp,
+        ztor,
+        rjb,
+        azimuth,
+        rrup,
+        z10,
+        z15,
+        z25,
+    ] = f;
     Request {
         m,
         rake,
@@ -72,30 +64,20 @@ pub fn request_of(f: [Field; 13]) -> Request
 }
 
 // A line without its LF: any bytes, of any length.
-pub fn read_line(s: &[u8]) -> Line
+#[tactic(auto, using(crate::proofs::FieldLaws::too_long, crate::proofs::FieldLaws::no_space, crate::proofs::FieldLaws::no_field, crate::proofs::FieldLaws::no_last_field, crate::proofs::FieldLaws::last_field))]
+pub fn read_line(s: &[u8]) -> Option<Request>
     ensures { result ≡ line_of s.now }
 {
     if LONGEST < s.len() {
-        return Line::Malformed;
+        return None;
     }
     let mut got = [Field::Blank; 13];
-    let mut at = 0usize;
-    let mut k = 0usize;
-    while k < 12 {
-        let e = space_from(s, at);
-        if e == s.len() {
-            return Line::Malformed;
-        }
-        let Word::Is(f) = read_field(&s[at..e], signed_at(k)) else {
-            return Line::Malformed;
-        };
-        got[k] = f;
-        at = e + 1;
-        k += 1;
+    let mut rest = s;
+    for k in 0..12 {
+        let (field, behind) = cut(rest)?;
+        got[k] = read_field(field, signed_at(k))?;
+        rest = behind;
     }
-    let Word::Is(f) = read_field(&s[at..], signed_at(12)) else {
-        return Line::Malformed;
-    };
-    got[12] = f;
-    Line::Is(request_of(got))
+    got[12] = read_field(rest, signed_at(12))?;
+    Some(request_of(got))
 }

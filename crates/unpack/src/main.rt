@@ -5,5 +5,5 @@ use file_programs::xanhupive_program_unpack;
 use std::process::ExitCode;
 
 fn main(rt: HostRuntime) -> ExitCode {
-    ExitCode::from(xanhupive_program_unpack(&rt, rt.process()) as u8)
+    ExitCode::from(xanhupive_program_unpack(&rt, rt.process()))
 }

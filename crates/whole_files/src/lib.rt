@@ -2,14 +2,15 @@
 // to the disk and then renamed, so that until then an old target stays as it is.
 #![tactic(auto)]
 
-ghost use Rattle.std.specs.Prelude.{◌≡◌, ◌≤◌, length};
+ghost use Rattle.std.specs.Prelude.{◌≡◌, ◌≤◌, length, IfOk};
 ghost use Rattle.lent.specs.Lent.{Written};
 ghost use Rattle.whole_files.specs.Names.{longest_path, name_room, name_of};
 
 use cuts::up_to_last;
-use failures::say_failed;
-use lent::put_text;
+use failures::{Failed, say_failed};
+use lent::put_slice;
 use numerals::{put_ended, put_number};
+use refusals::Refusal;
 use std::fs::{File, OpenFile};
 use std::io::ErrorKind;
 use std::process::Process;
@@ -26,31 +27,30 @@ pub const PATH: usize = 4096;
 // How often a name is tried: another process with this one's number may have left some.
 const TRIES: u64 = 100;
 
-// A file that was begun, or why it could not be, and the length of its name.
+// A file that was begun: what is written into, the name under which it stands, and the path that it is to get.
 #[derive(Drop)]
-pub struct Begun<F> {
-    pub file: io::Result<F>,
-    pub length: usize,
+pub struct Begun<'n, 't, F> {
+    pub file: F,
+    name: &'n str,
+    target: &'t str,
 }
 
 // Writes the name for a target at the start of lent bytes.
 fn put_name(name: &mut [u8], target: &[u8], process: u64, attempt: u64) -> usize
     requires { (length target.now ≤ longest_path) × (name_room ≤ length name.old) }
-    ensures { Written name.old 0 (name_of target.now process attempt) result name.new }
+    ensures written { Written name.old 0 (name_of target.now process attempt) result name.new }
+    ensures within { result ≤ length name.new }
 {
     let n = up_to_last(target, b'/');
-    let p = put_text(name, 0, &target[..n]);
-    let q = put_text(name, p, b".xanhupive-");
+    let p = put_slice(name, 0, &target[..n]);
+    let q = put_slice(name, p, b".xanhupive-");
     let r = put_ended(name, q, process, b'-');
     put_number(name, r, attempt)
 }
 
 // A name as text, as the system's calls take it.
 fn text_of(name: &[u8]) -> io::Result<&str> {
-    match from_utf8(name) {
-        Ok(text) => Ok(text),
-        Err(_) => Err(io::Error::from(ErrorKind::InvalidFilename)),
-    }
+    from_utf8(name).map_err(|_| io::Error::from(ErrorKind::InvalidFilename))
 }
 
 // Makes a new file under a name.
@@ -68,64 +68,54 @@ fn open_folder<R: Files>(rt: &R, folder: &[u8]) -> io::Result<R::File> {
 }
 
 // Takes a name away. Whether it can be changes nothing.
-fn remove(rt: &impl Files, name: &[u8]) {
-    if let Ok(path) = text_of(name) {
-        let _ = fs::remove_file(rt, path);
-    }
-}
-
-// Gives what stands under a name its target's.
-fn rename(rt: &impl Files, name: &[u8], target: &str) -> io::Result<()> {
-    fs::rename(rt, text_of(name)?, target)
+fn remove(rt: &impl Files, name: &str) {
+    let _ = fs::remove_file(rt, name);
 }
 
 // Whether a file could not be made since its name is another's, by what making it answered.
-fn is_taken<F>(file: &io::Result<F>) -> bool {
-    match file {
-        Ok(_) => false,
-        Err(error) => error.kind() == ErrorKind::AlreadyExists,
-    }
+fn is_taken<F>(made: &io::Result<F>) -> bool {
+    matches!(made, Err(error) if error.kind() == ErrorKind::AlreadyExists)
 }
 
-// Makes a new file for a target under the name of one attempt.
+// Makes a new file for a target under the name of one attempt, and answers with how long that is.
 fn attempt_at<R: Files>(
     rt: &R,
     target: &[u8],
     name: &mut [u8],
     process: u64,
     attempt: u64,
-) -> Begun<R::File>
+) -> io::Result<(R::File, usize)>
     requires { (length target.now ≤ longest_path) × (name_room ≤ length name.old) }
-    ensures { (length name.new ≡ length name.old) × (result.length ≤ length name.new) }
+    ensures { IfOk result (λ made. made.1 ≤ length name.new) }
 {
     let n = put_name(name, target, process, attempt);
-    Begun {
-        file: create(rt, &name[..n]),
-        length: n,
-    }
+    let file = create(rt, &name[..n])?;
+    Ok((file, n))
 }
 
 // Makes a new file for a target, under a name of its own that goes into lent bytes.
-pub fn begin<R: Files>(rt: &R, process: Process, target: &str, name: &mut [u8]) -> Begun<R::File>
+pub fn begin<'n, 't, R: Files>(
+    rt: &R,
+    process: Process,
+    target: &'t str,
+    name: &'n mut [u8],
+) -> io::Result<Begun<'n, 't, R::File>>
     requires { (length target.now ≤ longest_path) × (name_room ≤ length name.old) }
-    ensures { result.length ≤ length name.new }
 {
-    let target = target.as_bytes();
     let number = u64::from(process::id(process));
-    let mut begun = attempt_at(rt, target, name, number, 0);
+    let mut made = attempt_at(rt, target.as_bytes(), name, number, 0);
     for attempt in 1..TRIES {
-        if !is_taken(&begun.file) {
+        if !is_taken(&made) {
             break;
         }
-        begun = attempt_at(rt, target, name, number, attempt);
+        made = attempt_at(rt, target.as_bytes(), name, number, attempt);
     }
-    begun
-}
-
-// Takes a file that was begun away again.
-pub fn discard<R: Files>(rt: &R, file: R::File, name: &[u8]) {
-    drop(file);
-    remove(rt, name);
+    let (file, n) = made?;
+    Ok(Begun {
+        file,
+        name: text_of(&name[..n])?,
+        target,
+    })
 }
 
 // Brings what a folder lists to the disk. Not every system can, and then nothing is lost but time.
@@ -142,25 +132,32 @@ fn sync_folder(rt: &impl Files, target: &str) {
     }
 }
 
-// Brings a file that was begun to the disk and gives it its target's name, or says why it cannot and takes
-// it away.
-pub fn keep<R: Files + Eprint>(rt: &R, file: R::File, name: &[u8], target: &str) -> bool {
-    if let Err(error) = file.sync_all() {
-        say_failed(rt, target, error);
-        discard(rt, file, name);
-        return false;
+impl<F: OpenFile + Drop> Begun<'_, '_, F> {
+    // Takes it away again.
+    pub fn discard(self, rt: &impl Files) {
+        drop(self.file);
+        remove(rt, self.name);
     }
-    drop(file);
-    if let Err(error) = rename(rt, name, target) {
-        say_failed(rt, target, error);
-        remove(rt, name);
-        return false;
+
+    // Brings it to the disk and gives it its target's name, or says why it cannot and takes it away.
+    pub fn keep(self, rt: &(impl Files + Eprint)) -> Result<(), Failed> {
+        if let Err(error) = self.file.sync_all() {
+            let failed = say_failed(rt, self.target, error);
+            self.discard(rt);
+            return Err(failed);
+        }
+        drop(self.file);
+        if let Err(error) = fs::rename(rt, self.name, self.target) {
+            let failed = say_failed(rt, self.target, error);
+            remove(rt, self.name);
+            return Err(failed);
+        }
+        sync_folder(rt, self.target);
+        Ok(())
     }
-    sync_folder(rt, target);
-    true
 }
 
 // Says a refusal's number on standard error, as the line "no N".
-pub fn say_no(rt: &impl Eprint, n: u32) {
-    let _ = eprintln!(rt; "no {n}");
+pub fn say_no(rt: &impl Eprint, refusal: Refusal) {
+    let _ = eprintln!(rt; "no {refusal}");
 }

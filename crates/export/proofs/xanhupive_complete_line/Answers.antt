@@ -1,6 +1,6 @@
--- The answer on the sheet of completion is written and counted.
+-- The answer on the sheet is written and counted. Assumes nothing.
 use Rattle.export.proofs.LineLaws.{line-given}
 use Rattle.export.proofs.xanhupive_complete_line.Goals as goal
 
 pub returns : goal.returns
-returns c = line-given c.count_of.result c.answer_line.ensures c.count_of.ensures
+returns c = line-given c.unwrap_or.result c.answer_line.ensures c.unwrap_or.ensures

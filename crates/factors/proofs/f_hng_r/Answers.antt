@@ -20,17 +20,16 @@ nothing z j r d h e k =
     let none : d - j * 10000 ≡ 0 = omega arith in
     sym (ap (λ (t : ℕ). t * E9 / d) none ∙ zero-div d) ∙ factor_is z j r d h e
 
-pub returns-then-x-eq0 : goal.returns-then-x-eq0
+pub returns-then-rjb-eq0 : goal.returns-then-rjb-eq0
 unfolding f_hng_r_fixed
-returns-then-x-eq0 c = rw (eq-eqb c.args.x.rjb 0 c.if-x-eq0.true, f_hng_r_fixed)
+returns-then-rjb-eq0 c = rw (eq-eqb c.args.rjb 0 c.if-rjb-eq0.true, f_hng_r_fixed)
 
 pub returns-then-d-plan : goal.returns-then-d-plan
-returns-then-d-plan c = nothing _ _ _ _ c.if-x-eq0.false c.wall_distance-d.ensures c.if-d-plan.true
+returns-then-d-plan c = nothing _ _ _ _ c.if-rjb-eq0.false c.wall_distance-d.ensures c.if-d-plan.true
 
 pub overflow_mul-result : goal.overflow_mul-result
 overflow_mul-result c =
-    let x = c.args.x in
-    omega (arith, c.wall_distance-d.ensures, wall_distance-size x.ztor x.rjb x.rrup c.requires.rjb-high c.requires.rrup-high)
+    omega (arith, c.wall_distance-d.ensures, wall_distance-size c.args.ztor c.args.rjb c.args.rrup c.requires.0 c.requires.1)
 
 pub returns : goal.returns
-returns c = factor_is _ _ _ _ c.if-x-eq0.false c.wall_distance-d.ensures
+returns c = factor_is _ _ _ _ c.if-rjb-eq0.false c.wall_distance-d.ensures

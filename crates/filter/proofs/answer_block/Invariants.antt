@@ -11,7 +11,7 @@ abbrev pub invariant-loop-at : goal.invariant-loop-at
 invariant-loop-at g l = record {
   within : l.at ≤ length l.block;
   enough : longest_answer l.sheet ≤ length l.out;
-  same : reader_after l.reader (drop l.at l.block) ≡ reader_after l.first l.block;
+  same : reader_after l.now (drop l.at l.block) ≡ reader_after l.reader l.block;
 }
 
 abbrev pub decreases-loop-at : goal.decreases-loop-at

@@ -1,13 +1,16 @@
 -- From turn to turn: the list so far, and what a turn took.
-use Rattle.filter.specs.declared.State.TheVariants as S
-use Rattle.filter.proofs.TurnLaws.{begun, next-turn, same_reader}
+use native.Mathlib.Omega.{arith}
+use Rattle.filter.proofs.TurnLaws.{begun, next-turn}
 use Rattle.filter.proofs.read_list.Goals as goal
 
 pub loop-init : goal.loop-init
-loop-init g c = begun c.new_reader-reader.result S.Going c.new_reader-reader.ensures
+loop-init g c = (begun c.args.reader.now, c.requires)
 
-pub returns-in_default : goal.returns-in_default
-returns-in_default g c = next-turn c.loop.invariant c.read_block-turn.ensures
+pub returns-in_err-read_block : goal.returns-in_err-read_block
+returns-in_err-read_block g c = next-turn c.loop.invariant.0 c.read_block.ensures
+
+pub returns-then-not-branch : goal.returns-then-not-branch
+returns-then-not-branch g c = next-turn c.loop.invariant.0 c.read_block.ensures
 
 pub loop-preserved : goal.loop-preserved
-loop-preserved g c = same_reader S.Going (next-turn c.loop.invariant c.read_block-turn.ensures)
+loop-preserved g c = (next-turn c.loop.invariant.0 c.read_block.ensures, omega arith)

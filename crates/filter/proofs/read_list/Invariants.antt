@@ -1,8 +1,8 @@
--- The loop's invariant: the reader is the one after the list so far.
-use Rattle.lists.specs.Parts.{new_reader}
-use Rattle.filter.specs.declared.State.TheVariants as S
-use Rattle.filter.specs.Turns.{turn, Took}
+-- The reader is the one after the list so far, and the lent bytes are enough for the longest answer.
+use Rattle.std.proofs.Common.{length, ◌≤◌}
+use Rattle.answer.specs.Sheets.{longest_answer}
+use Rattle.filter.specs.Turns.{Took}
 use Rattle.filter.proofs.read_list.Given as goal
 
 abbrev pub invariant-loop : goal.invariant-loop
-invariant-loop g l = Took new_reader (turn l.reader S.Going)
+invariant-loop g l = Took l.fn.reader l.reader × (longest_answer l.sheet ≤ length l.out)

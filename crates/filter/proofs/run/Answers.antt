@@ -15,4 +15,4 @@ enough (S.Period t) = omega arith
 
 pub end_list-requires : goal.end_list-requires
 end_list-requires g c =
-    omega (arith, closing-short c.args.sheet c.read_list-turn.result.reader, enough c.args.sheet, c.read_list-turn.auto.out)
+    omega (arith, closing-short c.args.sheet c.read_list-read.new.reader, enough c.args.sheet, c.read_list-read.auto.out)

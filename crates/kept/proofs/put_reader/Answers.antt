@@ -10,5 +10,5 @@ pub returns : goal.returns
 unfolding reader_bytes
 returns c =
     let full : length c.args.r.held ≡ longest = search rules in
-    then c.put_text-at.ensures (c.args.r.count ∷ []) (omega (arith, c.requires, full, length-append c.args.r.held (c.args.r.count ∷ [])))
+    then c.put_slice-at.ensures (c.args.r.count ∷ []) (omega (arith, c.requires, full, length-append c.args.r.held (c.args.r.count ∷ [])))
     c.put_byte.ensures

@@ -10,6 +10,7 @@ use Rattle.model.specs.Fixed.{f_site_fixed, ln_sum, rock_pga_fixed, ln_median_at
 use Rattle.model.proofs.Median.{rock_is_near, ln_own-size}
 use Rattle.model.proofs.Fair.{fair_of}
 use Rattle.model.proofs.Sizes.{f_site-size}
+use Rattle.terms.proofs.Rows.{of_table}
 use Rattle.measures.proofs.ln_own.Goals as goal
 
 module _ (c : Coefficients) (x : Scenario) (o : OfTable2 c) (r : InRange x) where
@@ -35,8 +36,11 @@ module _ (c : Coefficients) (x : Scenario) (o : OfTable2 c) (r : InRange x) wher
 
 pub ln_sum-requires : goal.ln_sum-requires
 ln_sum-requires c =
-    rw (site_read c.args.c c.args.x c.requires.0 c.requires.1 c.f_site.result c.f_site.ensures)
-    (c.requires.0, c.requires.1, c.requires.2, c.requires.3, site_small c.args.c c.args.x c.requires.0 c.requires.1)
+    let m = c.args.m.now.measure in
+    rw (site_read m.c m.f.now.x (of_table m) m.f.now.in_range c.f_site.result c.f_site.ensures)
+    (site_small m.c m.f.now.x (of_table m) m.f.now.in_range)
 
 pub returns : goal.returns
-returns c = sum_is c.args.c c.args.x c.requires.0 c.requires.1 c.f_site.result c.ln_sum.result c.f_site.ensures c.ln_sum.ensures
+returns c =
+    let m = c.args.m.now.measure in
+    sum_is m.c m.f.now.x (of_table m) m.f.now.in_range c.f_site.result c.ln_sum.result c.f_site.ensures c.ln_sum.ensures

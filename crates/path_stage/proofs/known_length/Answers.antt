@@ -25,33 +25,33 @@ top-is : (r : Request) (s : Source) (d : ℕ) → s ≡ source_figures r → d �
 unfolding source_figures
 top-is r s d e h = h ∙ ap (λ (s : Source). size_of s.ztor) e
 
-pub returns-then-not-is_blank : goal.returns-then-not-is_blank
-returns-then-not-is_blank c =
-    c.size_of.ensures ∙ sym (ap size_of (length-given c.args.r (sym c.is_blank.ensures ∙ c.if-not-is_blank.true)))
+pub returns-else-is_blank : goal.returns-else-is_blank
+returns-else-is_blank c =
+    c.size-else-is_blank.ensures ∙ sym (ap size_of (length-given c.args.s.request (sym c.is_blank.ensures ∙ c.if-is_blank.false)))
 
 pub rupture_distance-requires : goal.rupture_distance-requires
 rupture_distance-requires c =
-    let r = c.args.r in
-    let s = c.args.s in
-    let e = c.requires.0 in
-    let source = source_range r (source_given_lem r c.requires.1) in
-    let path = path_range r c.requires.2 in
-    rw (dip-is r s _ e c.size_of-2.ensures, width_is r s _ e c.size_of-3.ensures, top-is r s _ e c.size_of-4.ensures, c.size_of-rjb.ensures)
+    let r = c.args.s.request in
+    let s = c.args.s.figures in
+    let e = c.args.s.completed in
+    let source = source_range r (source_given_lem r c.args.s.silent) in
+    let path = path_range r c.requires in
+    rw (dip-is r s _ e c.size.ensures, width_is r s _ e c.size-then-is_blank.ensures, top-is r s _ e c.size-then-is_blank-2.ensures, c.size-then-is_blank-3.ensures)
     (record {
       dip-low = source.dip-low;
       dip-high = source.dip-high;
       w_low = source.w_low;
       w_high = source.w_high;
-      ztor-high = top_range r c.requires.1;
+      ztor-high = top_range r c.args.s.silent;
       rjb-high = path.rjb-high;
     })
 
-pub returns : goal.returns
-returns c =
-    let r = c.args.r in
-    let s = c.args.s in
-    let e = c.requires.0 in
-    let azimuth_fits : SFits w64 c.value_of-azimuth.result = record { sfits = c.value_of-azimuth.type_inv } in
-    (rw (dip-is r s _ e c.size_of-2.ensures, width_is r s _ e c.size_of-3.ensures, top-is r s _ e c.size_of-4.ensures, c.size_of-rjb.ensures, c.value_of-azimuth.ensures)
+pub returns-then-is_blank : goal.returns-then-is_blank
+returns-then-is_blank c =
+    let r = c.args.s.request in
+    let s = c.args.s.figures in
+    let e = c.args.s.completed in
+    let azimuth_fits : SFits w64 c.value.result = record { sfits = c.value.type_inv } in
+    (rw (dip-is r s _ e c.size.ensures, width_is r s _ e c.size-then-is_blank.ensures, top-is r s _ e c.size-then-is_blank-2.ensures, c.size-then-is_blank-3.ensures, c.value.ensures)
     at (simp (to_z-of_z azimuth_fits) at c.rupture_distance.ensures))
-    ∙ sym (length-estimated r (sym c.is_blank.ensures ∙ c.if-not-is_blank.false))
+    ∙ sym (length-estimated r (sym c.is_blank.ensures ∙ c.if-is_blank.true))

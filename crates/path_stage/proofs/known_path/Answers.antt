@@ -4,11 +4,11 @@ use Rattle.outcome.specs.Figures.{estimated}
 use Rattle.outcome.proofs.FigureLaws.{length-given, by_length}
 use Rattle.path_stage.proofs.known_path.Goals as goal
 
-pub returns-then-not-is_blank : goal.returns-then-not-is_blank
-returns-then-not-is_blank c = sym (length-given c.args.r (sym c.is_blank.ensures ∙ c.if-not-is_blank.true))
+pub returns-else-is_blank : goal.returns-else-is_blank
+returns-else-is_blank c = sym (length-given c.args.r (sym c.is_blank.ensures ∙ c.if-is_blank.false))
 
-pub returns : goal.returns
-returns c =
+pub returns-then-is_blank : goal.returns-then-is_blank
+returns-then-is_blank c =
     c.estimated_figure.ensures
     ∙ ap estimated c.requires.0
-    ∙ sym (by_length c.args.r (sym c.is_blank.ensures ∙ c.if-not-is_blank.false))
+    ∙ sym (by_length c.args.r (sym c.is_blank.ensures ∙ c.if-is_blank.true))

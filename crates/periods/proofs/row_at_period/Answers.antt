@@ -49,8 +49,8 @@ pub period_at-t2-requires : goal.period_at-t2-requires
 period_at-t2-requires c =
     next c.args.t c.last_up_to-i.result c.period_at-t1.result c.requires.0 c.requires.1 c.last_up_to-i.ensures c.period_at-t1.ensures c.if-t1-t.false
 
-pub weight_of-w-requires : goal.weight_of-w-requires
-weight_of-w-requires c =
+pub of-w-requires : goal.of-w-requires
+of-w-requires c =
     let p = found c.args.t c.last_up_to-i.result c.requires.0 c.requires.1 c.last_up_to-i.ensures in
     let a = apart c.args.t c.last_up_to-i.result c.period_at-t1.result c.period_at-t1.ensures c.if-t1-t.false in
     let r1 = sym c.period_at-t1.ensures in
@@ -79,7 +79,6 @@ pub drawn_between-requires : goal.drawn_between-requires
 drawn_between-requires c =
     let n = next c.args.t c.last_up_to-i.result c.period_at-t1.result c.requires.0 c.requires.1 c.last_up_to-i.ensures c.period_at-t1.ensures c.if-t1-t.false in
     let i = c.last_up_to-i.result in (
-      c.weight_of-w.ensures.1,
       subst FineInRange (sym c.fine_at.ensures) (fine_in_range i c.args.x (omega (arith, n)) c.requires.2),
       subst FineInRange (sym c.fine_at-2.ensures) (fine_in_range (i + 1) c.args.x (omega (arith, n)) c.requires.2),
     )
@@ -90,13 +89,13 @@ drawn_report-requires c =
     let i = c.last_up_to-i.result in
     let f = subst FineInRange (sym c.fine_at.ensures) (fine_in_range i c.args.x (omega (arith, n)) c.requires.2) in
     let g = subst FineInRange (sym c.fine_at-2.ensures) (fine_in_range (i + 1) c.args.x (omega (arith, n)) c.requires.2) in
-    subst DrawnInRange (sym c.drawn_between.ensures) (drawn_in_range c.weight_of-w.result c.weight_of-w.ensures.1 c.fine_at.result c.fine_at-2.result f g)
+    subst DrawnInRange (sym c.drawn_between.ensures) (drawn_in_range c.of-w.result.w c.of-w.result.at_most_one c.fine_at.result c.fine_at-2.result f g)
 
 pub returns : goal.returns
 returns c =
     let i = c.last_up_to-i.result in
     let t = c.args.t in
-    let weight = c.weight_of-w.ensures.0 ∙ ap₂ (λ (a b : ℕ). weight_fixed t a b) c.period_at-t1.ensures c.period_at-t2.ensures in
+    let weight = c.of-w.ensures ∙ ap₂ (λ (a b : ℕ). weight_fixed t a b) c.period_at-t1.ensures c.period_at-t2.ensures in
     c.drawn_report.ensures
     ∙ ap drawn_report
     (c.drawn_between.ensures

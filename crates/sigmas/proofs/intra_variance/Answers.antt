@@ -1,20 +1,22 @@
 -- Each step of the code is the definition's, and its size keeps it within 64 bits; with alpha 0 what is added to s² is 0. Assumes
 -- nothing.
-use Rattle.std.proofs.Common.{arith, ◌≡◌, ◌≤◌, ◌<◌, nat_abs, ℕ, ◌*◌, ◌^◌, true, false, ap, ap₂, sym, ◌∙◌, w64, ℤ, pos, ◌+ℤ◌, FitsSigned, to_z, of_z}
+use Rattle.std.proofs.Common.{arith, ◌≡◌, ◌≤◌, ◌<◌, nat_abs, ℕ, ◌*◌, ◌^◌, zero, suc, refl, ap, ap₂, sym, ◌∙◌, w64, ℤ, pos, negsuc, ◌+ℤ◌, FitsSigned, to_z, of_z}
 use native.Mathlib.Nat.{mul-le-mul}
 use lib.Dec.{lit≤}
-use lib.Signed.{lt_z}
+use borrow.Author.Tests.{le-leb}
+use Rattle.std.specs.Int.{int_max}
 use mir.Facts.{to_z_pos, to_z-of_z}
 use Rattle.exact.specs.Near.{up}
-use Rattle.exact.proofs.Signed.{sfits-abs, add-abs, abs-parts, by_sign, lt-parts, not_below}
+use Rattle.exact.proofs.Signed.{sfits-abs, add-abs, up_lt}
 use Rattle.fixed.specs.Fixed.{E9, mul_div}
 use Rattle.fixed.proofs.SignedLaws.{mul_div-abs}
 use Rattle.tables.specs.declared.Deviations.{Deviations}
+use Rattle.tables.specs.Tables.{measures, deviations_at}
 use Rattle.model.specs.Fixed.{squared_fixed, cross_fixed, intra_variance_fixed}
 use Rattle.sigmas.proofs.LinearSite.{rock_is, y_of, added_of, flat, spread_row}
-use Rattle.model.proofs.Fair.{Spread}
 use Rattle.model.proofs.Sizes.{y_fits}
 use Rattle.sigmas.proofs.intra_variance.Goals as goal
+use Rattle.sigmas.proofs.intra_variance.Goals.{After-max}
 
 -- ---- the sizes of the steps
 record Steps (d : Deviations) (a : ℤ) : Type 0 where
@@ -26,8 +28,9 @@ record Steps (d : Deviations) (a : ℤ) : Type 0 where
   added_in : FitsSigned w64 (added_of d a)
   whole_in : FitsSigned w64 (pos (squared_fixed d.s) +ℤ added_of d a)
 
-steps : (d : Deviations) (a : ℤ) → Spread d → nat_abs a ≤ 2671000367 → Steps d a
-steps d a f h =
+steps : (i : ℕ) (d : Deviations) (a : ℤ) → (i < measures) × (d ≡ deviations_at i) × (nat_abs a ≤ 2671000367) → Steps d a
+steps i d a (below, is, h) =
+    let f = spread_row i d below is in
     let x : ℤ = pos (cross_fixed d) in
     let y : nat_abs (y_of a) ≤ 995000000 = y_fits a h in
     let s : nat_abs (y_of a +ℤ x) ≤ 1795000000 = omega (arith, add-abs (y_of a) x, f.cross-high) in
@@ -71,18 +74,18 @@ whole_fits : (d : Deviations) (a : ℤ) → Steps d a → FitsSigned w64 (intra_
 unfolding intra_variance_fixed
 whole_fits d a s = s.whole_in
 
--- ---- the sum, below 0 and not
-below : (m v : ℤ) → FitsSigned w64 v → m ≡ v → lt_z (to_z w64 (of_z w64 m)) (pos 0) ≡ true → 0 ≡ up v
-below m v f e h =
-    let k : lt_z v (pos 0) ≡ true = sym (ap (λ (t : ℤ). lt_z t (pos 0)) (ap (λ (t : ℤ). to_z w64 (of_z w64 t)) e ∙ to_z-of_z f)) ∙ h in
-    let l = lt-parts v (pos 0) k in
-    by_sign v (λ n. omega (arith, l)) (λ n. sym n)
+-- ---- the sum, at least 0
+not_below_zero : (v : ℤ) → int_max v (pos 0) ≡ pos (up v)
+not_below_zero (pos zero) = refl
+not_below_zero (pos (suc n)) = rw (le-leb 1 (suc n) (omega arith))
+not_below_zero (negsuc n) = refl
 
-above : (m v : ℤ) → FitsSigned w64 v → m ≡ v → lt_z (to_z w64 (of_z w64 m)) (pos 0) ≡ false → nat_abs (to_z w64 (of_z w64 m)) ≡ up v
-above m v f e h =
+read_most :
+    (m v z : ℤ) → FitsSigned w64 v → m ≡ v → z ≡ int_max (to_z w64 (of_z w64 m)) (pos 0) → to_z w64 (of_z w64 z) ≡ pos (up v)
+read_most m v z f e g =
     let r : to_z w64 (of_z w64 m) ≡ v = ap (λ (t : ℤ). to_z w64 (of_z w64 t)) e ∙ to_z-of_z f in
-    let k : lt_z v (pos 0) ≡ false = sym (ap (λ (t : ℤ). lt_z t (pos 0)) r) ∙ h in
-    ap nat_abs r ∙ omega (arith, abs-parts v, not_below v k)
+    let h : z ≡ pos (up v) = g ∙ ap (λ (t : ℤ). int_max t (pos 0)) r ∙ not_below_zero v in
+    rw h (to_z-of_z (sfits-abs (pos (up v)) (up_lt v f)))
 
 -- ---- the function
 pub squared-linear-requires : goal.squared-linear-requires
@@ -95,41 +98,42 @@ returns-then-alpha-eq0 c =
 
 pub overflow_add-y : goal.overflow_add-y
 overflow_add-y c =
-    let s = steps c.args.d c.args.alpha (spread_row c.args.i c.args.d c.requires.0 c.requires.1) c.requires.2 in
+    let s = steps c.args.i c.args.d c.args.alpha c.requires in
     let y = read_y c.args.alpha c.mul_div-y.result c.ranges.alpha s.y_in c.mul_div-y.ensures in
     let x = read_cross c.args.d c.cross_at.result (c.cross_at.ensures ∙ ap cross_fixed (sym c.requires.1)) s.cross-low in
     rw (y, x) s.sum_in
 
 pub mul_div-requires : goal.mul_div-requires
 mul_div-requires c =
-    let s = steps c.args.d c.args.alpha (spread_row c.args.i c.args.d c.requires.0 c.requires.1) c.requires.2 in
+    let s = steps c.args.i c.args.d c.args.alpha c.requires in
     let y = read_y c.args.alpha c.mul_div-y.result c.ranges.alpha s.y_in c.mul_div-y.ensures in
     let x = read_cross c.args.d c.cross_at.result (c.cross_at.ensures ∙ ap cross_fixed (sym c.requires.1)) s.cross-low in
     rw (y, x, to_z-of_z s.sum_in) (s.product, lit≤ tt)
 
 pub overflow_add-more : goal.overflow_add-more
 overflow_add-more c =
-    let s = steps c.args.d c.args.alpha (spread_row c.args.i c.args.d c.requires.0 c.requires.1) c.requires.2 in
+    let s = steps c.args.i c.args.d c.args.alpha c.requires in
     let y = read_y c.args.alpha c.mul_div-y.result c.ranges.alpha s.y_in c.mul_div-y.ensures in
     let x = read_cross c.args.d c.cross_at.result (c.cross_at.ensures ∙ ap cross_fixed (sym c.requires.1)) s.cross-low in
     let z = read_added c.args.d c.args.alpha _ _ c.mul_div.result s y x c.mul_div.ensures in
     let m = more_is c.args.d c.args.alpha _ c.squared-linear.result s c.squared-linear.ensures z in
     rw m (whole_fits c.args.d c.args.alpha s)
 
-pub returns-then-more-lt0 : goal.returns-then-more-lt0
-returns-then-more-lt0 c =
-    let s = steps c.args.d c.args.alpha (spread_row c.args.i c.args.d c.requires.0 c.requires.1) c.requires.2 in
+sum_is :
+    (c : After-max)
+    → to_z w64 (of_z w64 c.max.result) ≡ pos (up (intra_variance_fixed c.args.d c.args.alpha))
+sum_is c =
+    let s = steps c.args.i c.args.d c.args.alpha c.requires in
     let y = read_y c.args.alpha c.mul_div-y.result c.ranges.alpha s.y_in c.mul_div-y.ensures in
     let x = read_cross c.args.d c.cross_at.result (c.cross_at.ensures ∙ ap cross_fixed (sym c.requires.1)) s.cross-low in
     let z = read_added c.args.d c.args.alpha _ _ c.mul_div.result s y x c.mul_div.ensures in
     let m = more_is c.args.d c.args.alpha _ c.squared-linear.result s c.squared-linear.ensures z in
-    below _ _ (whole_fits c.args.d c.args.alpha s) m c.if-more-lt0.true
+    read_most _ _ _ (whole_fits c.args.d c.args.alpha s) m c.max.ensures.value
 
-pub returns-else-more-lt0 : goal.returns-else-more-lt0
-returns-else-more-lt0 c =
-    let s = steps c.args.d c.args.alpha (spread_row c.args.i c.args.d c.requires.0 c.requires.1) c.requires.2 in
-    let y = read_y c.args.alpha c.mul_div-y.result c.ranges.alpha s.y_in c.mul_div-y.ensures in
-    let x = read_cross c.args.d c.cross_at.result (c.cross_at.ensures ∙ ap cross_fixed (sym c.requires.1)) s.cross-low in
-    let z = read_added c.args.d c.args.alpha _ _ c.mul_div.result s y x c.mul_div.ensures in
-    let m = more_is c.args.d c.args.alpha _ c.squared-linear.result s c.squared-linear.ensures z in
-    above _ _ (whole_fits c.args.d c.args.alpha s) m c.if-more-lt0.false
+pub overflow_cast-result : goal.overflow_cast-result
+overflow_cast-result c =
+    let s = steps c.args.i c.args.d c.args.alpha c.requires in
+    rw (sum_is c) (tt, record { fits = omega (arith, up_lt _ (whole_fits c.args.d c.args.alpha s)) })
+
+pub returns : goal.returns
+returns c = ap nat_abs (sum_is c)

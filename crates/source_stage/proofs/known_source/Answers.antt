@@ -30,23 +30,23 @@ module _ (r : Request) (s : Style) (m : ℕ) (e : s ≡ style_of (value_of r.rak
 
 pub complete_width-w-requires : goal.complete_width-w-requires
 complete_width-w-requires c = let range = source_range c.args.r c.requires in
-    rw c.size_of-m.ensures (range.m_low, range.m_high)
+    rw c.size-m.ensures (range.m_low, range.m_high)
 
 pub hypocentre_tenths-tenths-requires : goal.hypocentre_tenths-tenths-requires
 hypocentre_tenths-tenths-requires c = let range = source_range c.args.r c.requires in
-    rw c.size_of-m.ensures (range.m_low, range.m_high, range.zhyp-given)
+    rw c.size-m.ensures (range.m_low, range.m_high, range.zhyp-given)
 
 pub complete_top-ztor-requires : goal.complete_top-ztor-requires
 complete_top-ztor-requires c =
     let r = c.args.r in
-    let s = c.style_by_rake-style in
-    let m = c.size_of-m in
+    let s = c.style-style in
+    let m = c.size-m in
     let range = source_range r c.requires in
     rw (
       tenths_are r s.result m.result s.ensures m.ensures c.hypocentre_tenths-tenths.result c.hypocentre_tenths-tenths.ensures,
-      c.size_of.ensures,
+      c.size.ensures,
       width_is r s.result m.result s.ensures m.ensures c.complete_width-w.result c.complete_width-w.ensures,
-      c.size_of-2.ensures,
+      c.size-2.ensures,
       dip-is r s.result m.result s.ensures m.ensures c.complete_dip-dip.result c.complete_dip-dip.ensures,
     )
     (range.zhyp-high, range.w_high, range.dip-high)
@@ -64,12 +64,12 @@ whole r d w h t n a b e f g i j k l =
 pub returns : goal.returns
 returns c =
     let r = c.args.r in
-    let s = c.style_by_rake-style in
-    let m = c.size_of-m in
+    let s = c.style-style in
+    let m = c.size-m in
     whole r _ _ _ _ _ _ _ (dip-is r s.result m.result s.ensures m.ensures c.complete_dip-dip.result c.complete_dip-dip.ensures)
     (width_is r s.result m.result s.ensures m.ensures c.complete_width-w.result c.complete_width-w.ensures)
     (tenths_are r s.result m.result s.ensures m.ensures c.hypocentre_tenths-tenths.result c.hypocentre_tenths-tenths.ensures)
     c.complete_hypocentre-zhyp.ensures
-    c.size_of.ensures
-    c.size_of-2.ensures
+    c.size.ensures
+    c.size-2.ensures
     c.complete_top-ztor.ensures

@@ -5,7 +5,7 @@ use native.Mathlib.Omega.{arith}
 use lib.ListN.{take}
 use Rattle.cuts.specs.Cuts.{up_to}
 use Rattle.lent.specs.Lent.{Written}
-use Rattle.lent.proofs.PutLaws.{shorter, room_after, then}
+use Rattle.lent.proofs.PutLaws.{length-put, shorter, room_after, then}
 use Rattle.numerals.specs.Render.{ascii, minus, render, ended}
 use Rattle.whole_files.specs.Names.{longest_path, name_room, slash, name_of}
 use Rattle.whole_files.proofs.NameLaws.{name_fits}
@@ -62,14 +62,24 @@ module _ (b t : List ℕ) {process attempt : ℕ}
 pub put_ended-r-requires : goal.put_ended-r-requires
 unfolding ascii
 put_ended-r-requires c =
-    for_process c.args.name.now c.args.target.now c.requires c.ranges.process.fits c.ranges.attempt.fits c.up_to_last-n.ensures.0 c.put_text-p.ensures c.put_text-q.ensures
+    for_process c.args.name.now c.args.target.now c.requires c.ranges.process.fits c.ranges.attempt.fits c.up_to_last-n.ensures.0 c.put_slice-p.ensures c.put_slice-q.ensures
 
 pub put_number-requires : goal.put_number-requires
 unfolding ascii
 put_number-requires c =
-    for_attempt c.args.name.now c.args.target.now c.requires c.ranges.process.fits c.ranges.attempt.fits c.up_to_last-n.ensures.0 c.put_text-p.ensures c.put_text-q.ensures c.put_ended-r.ensures
+    for_attempt c.args.name.now c.args.target.now c.requires c.ranges.process.fits c.ranges.attempt.fits c.up_to_last-n.ensures.0 c.put_slice-p.ensures c.put_slice-q.ensures c.put_ended-r.ensures
 
 pub returns : goal.returns
 unfolding ascii
 returns c =
-    whole c.args.name.now c.args.target.now c.requires c.ranges.process.fits c.ranges.attempt.fits c.up_to_last-n.ensures.0 c.put_text-p.ensures c.put_text-q.ensures c.put_ended-r.ensures c.put_number.ensures
+    let name = c.args.name.now in
+    let target = c.args.target.now in
+    let w : Written name 0 (name_of target c.args.process c.args.attempt) c.put_number.result c.put_number.new.b =
+    whole name target c.requires c.ranges.process.fits c.ranges.attempt.fits c.up_to_last-n.ensures.0 c.put_slice-p.ensures c.put_slice-q.ensures c.put_ended-r.ensures c.put_number.ensures
+    in
+    let k = name_fits target c.args.process c.args.attempt c.requires.0 (omega (arith, c.ranges.process.fits)) (omega (arith, c.ranges.attempt.fits)) in
+    record {
+      written = w;
+      within =
+          omega (arith, w.place, ap length w.became, length-put name 0 (name_of target c.args.process c.args.attempt) (omega (arith, k, c.requires.1)), k, c.requires.1);
+    }

@@ -41,14 +41,14 @@ module _ (at k : ℕ) (r : Shown) (n : ℕ) (h : at + length (row_line k r) ≤ 
   room0 : at + length (text0 k r) ≤ n
   room0 = shorter at (text0 k r) (render_signed r.ln) room1
 
-pub put_ended-p0-requires : goal.put_ended-p0-requires
-put_ended-p0-requires c = room0 c.args.at c.args.k c.args.row (length c.args.out.now) c.requires
+pub put_ended-at-requires : goal.put_ended-at-requires
+put_ended-at-requires c = room0 c.args.at c.args.k c.args.row (length c.args.out.now) c.requires
 
-pub put_signed-p1-requires : goal.put_signed-p1-requires
-put_signed-p1-requires c =
+pub put_signed-at-requires : goal.put_signed-at-requires
+put_signed-at-requires c =
     let fits : SFits w64 c.args.row.ln = search rules in
     simp (to_z-of_z fits)
-    (room_after c.put_ended-p0.ensures (render_signed c.args.row.ln) (room1 c.args.at c.args.k c.args.row (length c.args.out.now) c.requires))
+    (room_after c.put_ended-at.ensures (render_signed c.args.row.ln) (room1 c.args.at c.args.k c.args.row (length c.args.out.now) c.requires))
 
 -- what is written after each call
 module _ {b : List ℕ} {at : ℕ} (k : ℕ) (r : Shown) (h : at + length (row_line k r) ≤ length b) where
@@ -64,23 +64,23 @@ module _ {b : List ℕ} {at : ℕ} (k : ℕ) (r : Shown) (h : at + length (row_l
         put3 : Written b at (text3 k r) p₃ b₃
         put3 = then put2 (ended r.median space) (room3 at k r (length b) h) w₃
 
-pub put_byte-p2-requires : goal.put_byte-p2-requires
-put_byte-p2-requires c =
+pub put_byte-at-requires : goal.put_byte-at-requires
+put_byte-at-requires c =
     let fits : SFits w64 c.args.row.ln = search rules in
-    room_after (put1 c.args.k c.args.row c.requires c.put_ended-p0.ensures (simp (to_z-of_z fits) at c.put_signed-p1.ensures)) (space ∷ [])
+    room_after (put1 c.args.k c.args.row c.requires c.put_ended-at.ensures (simp (to_z-of_z fits) at c.put_signed-at.ensures)) (space ∷ [])
     (room2 c.args.at c.args.k c.args.row (length c.args.out.now) c.requires)
 
-pub put_ended-p3-requires : goal.put_ended-p3-requires
-put_ended-p3-requires c =
+pub put_ended-at-requires-2 : goal.put_ended-at-requires-2
+put_ended-at-requires-2 c =
     let fits : SFits w64 c.args.row.ln = search rules in
-    room_after (put2 c.args.k c.args.row c.requires c.put_ended-p0.ensures (simp (to_z-of_z fits) at c.put_signed-p1.ensures) c.put_byte-p2.ensures)
+    room_after (put2 c.args.k c.args.row c.requires c.put_ended-at.ensures (simp (to_z-of_z fits) at c.put_signed-at.ensures) c.put_byte-at.ensures)
     (ended c.args.row.median space) (room3 c.args.at c.args.k c.args.row (length c.args.out.now) c.requires)
 
 pub put_ended-requires : goal.put_ended-requires
 put_ended-requires c =
     let fits : SFits w64 c.args.row.ln = search rules in
     room_after
-    (put3 c.args.k c.args.row c.requires c.put_ended-p0.ensures (simp (to_z-of_z fits) at c.put_signed-p1.ensures) c.put_byte-p2.ensures c.put_ended-p3.ensures)
+    (put3 c.args.k c.args.row c.requires c.put_ended-at.ensures (simp (to_z-of_z fits) at c.put_signed-at.ensures) c.put_byte-at.ensures c.put_ended-at-2.ensures)
     (ended c.args.row.sigma lf) (room4 c.args.at c.args.k c.args.row (length c.args.out.now) c.requires)
 
 pub returns : goal.returns
@@ -88,6 +88,6 @@ unfolding row_line
 returns c =
     let fits : SFits w64 c.args.row.ln = search rules in
     then
-    (put3 c.args.k c.args.row c.requires c.put_ended-p0.ensures (simp (to_z-of_z fits) at c.put_signed-p1.ensures) c.put_byte-p2.ensures c.put_ended-p3.ensures)
+    (put3 c.args.k c.args.row c.requires c.put_ended-at.ensures (simp (to_z-of_z fits) at c.put_signed-at.ensures) c.put_byte-at.ensures c.put_ended-at-2.ensures)
     (ended c.args.row.sigma lf) (room4 c.args.at c.args.k c.args.row (length c.args.out.now) c.requires)
     c.put_ended.ensures

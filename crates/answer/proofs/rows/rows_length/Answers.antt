@@ -4,14 +4,14 @@ use Rattle.answer.specs.RowLines.{row_lines}
 use Rattle.answer.proofs.RowLaws.{length-next}
 use Rattle.answer.proofs.rows.rows_length.Goals as goal
 
-pub loop-i-init : goal.loop-i-init
+pub loop-k-init : goal.loop-k-init
 unfolding row_lines
-loop-i-init c = (omega arith, omega arith, refl)
+loop-k-init c = (omega arith, refl)
 
-pub loop-i-preserved : goal.loop-i-preserved
-loop-i-preserved c = omega (arith, c.row_length-n.ensures, c.loop-i.invariant, length-next c.args.rows c.loop-i.i)
+pub loop-k-preserved : goal.loop-k-preserved
+loop-k-preserved c = omega (arith, c.row_length-n.ensures, c.loop-k.invariant, length-next c.args.rows c.loop-k.k)
 
 pub returns : goal.returns
 returns c =
-    let e : c.loop-i.i ≡ measures = omega arith in
-    rw e at c.loop-i.invariant.2
+    let e : c.loop-k.k ≡ measures = omega arith in
+    rw e at c.loop-k.invariant.1

@@ -1,20 +1,22 @@
 -- A refusal gets its line; the rows' lines are counted, and written where they fit. Assumes nothing.
 use Rattle.std.proofs.Common.{arith}
+use Rattle.std.proofs.lemmas.Result.{err_from_is_err_and}
 use Rattle.tables.specs.Tables.{measures}
 use Rattle.lent.proofs.WroteLaws.{refuses, writes}
-use Rattle.answer.specs.RowLines.{row_lines}
-use Rattle.answer.proofs.RowLaws.{refused-line, good-lines}
+use Rattle.answer.specs.RowLines.{row_lines, spectrum_lines}
 use Rattle.answer.proofs.rows.write_spectrum.Goals as goal
 
-pub returns-then-refusal-ne0 : goal.returns-then-refusal-ne0
-returns-then-refusal-ne0 c = rw (refused-line c.args.s c.if-refusal-ne0.true) c.write_no.ensures
+pub returns-in-Err : goal.returns-in-Err
+unfolding spectrum_lines
+returns-in-Err c = rw c.in-Err.is c.write_no.ensures
 
-pub returns-then-out-rows_length : goal.returns-then-out-rows_length
-returns-then-out-rows_length c =
-    rw (good-lines c.args.s c.if-refusal-ne0.false)
-    (refuses c.args.out.now (row_lines measures c.args.s.rows) (omega (arith, c.rows_length.ensures, c.if-out-rows_length.true)))
+pub returns-in_err-room : goal.returns-in_err-room
+unfolding spectrum_lines
+returns-in_err-room c =
+    let p = err_from_is_err_and c.from_residual.result c.from_residual.ensures.1 in
+    let full = c.in_err-room.ensures in
+    rw (c.in-Ok.is, p.1, p.2, full.0) (refuses c.args.out.now (row_lines measures c.in-Ok.rows) (omega arith))
 
 pub returns : goal.returns
-returns c =
-    rw (good-lines c.args.s c.if-refusal-ne0.false)
-    (writes (omega (arith, c.rows_length.ensures, c.if-out-rows_length.false)) c.put_rows.ensures)
+unfolding spectrum_lines
+returns c = let fits = c.in_ok-room.ensures in rw c.in-Ok.is (writes (omega arith) c.put_rows.ensures)

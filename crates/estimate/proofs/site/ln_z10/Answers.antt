@@ -56,28 +56,28 @@ overflow_sub-result c =
     let f = middle_falls c.args.v c.requires.0 c.requires.1 in
     rw (c.mul_div.ensures, c.ln_quotient.ensures, to_z-of_z f.ln_fits, to_z-of_z f.quotient_fits) (f.fits _ (lit≤ tt))
 
-pub returns-then-v-le500 : goal.returns-then-v-le500
+pub returns-then-v-le-JUMP : goal.returns-then-v-le-JUMP
 unfolding ln_z10_fixed
-returns-then-v-le500 c =
+returns-then-v-le-JUMP c =
     let v = c.args.v in
     let f = middle_falls v c.requires.0 c.requires.1 in
     rw (c.mul_div.ensures, c.ln_quotient.ensures, to_z-of_z f.ln_fits, to_z-of_z f.quotient_fits)
-    (to_z-of_z (f.fits _ (lit≤ tt)) ∙ rw (le-ltb v 180 c.if-v-lt180.false, ln_z10_fixed, le-leb v 500 c.if-v-le500.true))
+    (to_z-of_z (f.fits _ (lit≤ tt)) ∙ rw (le-ltb v 180 c.if-v-lt180.false, ln_z10_fixed, le-leb v 500 c.if-v-le-JUMP.true))
 
-pub mul_div-requires-2 : goal.mul_div-requires-2
-mul_div-requires-2 c =
+pub mul_div-requires-else-v-le-JUMP : goal.mul_div-requires-else-v-le-JUMP
+mul_div-requires-else-v-le-JUMP c =
     let f = high_falls c.args.v c.requires.0 c.requires.1 in
-    rw (c.ln_quotient-2.ensures, to_z-of_z f.ln_fits) (f.product, lit≤ tt)
+    rw (c.ln_quotient-else-v-le-JUMP.ensures, to_z-of_z f.ln_fits) (f.product, lit≤ tt)
 
-pub overflow_sub-result-2 : goal.overflow_sub-result-2
-overflow_sub-result-2 c =
+pub overflow_sub-result-else-v-le-JUMP : goal.overflow_sub-result-else-v-le-JUMP
+overflow_sub-result-else-v-le-JUMP c =
     let f = high_falls c.args.v c.requires.0 c.requires.1 in
-    rw (c.mul_div-2.ensures, c.ln_quotient-2.ensures, to_z-of_z f.ln_fits, to_z-of_z f.quotient_fits) (f.fits _ (lit≤ tt))
+    rw (c.mul_div-else-v-le-JUMP.ensures, c.ln_quotient-else-v-le-JUMP.ensures, to_z-of_z f.ln_fits, to_z-of_z f.quotient_fits) (f.fits _ (lit≤ tt))
 
-pub returns : goal.returns
+pub returns-else-v-le-JUMP : goal.returns-else-v-le-JUMP
 unfolding ln_z10_fixed
-returns c =
+returns-else-v-le-JUMP c =
     let v = c.args.v in
     let f = high_falls v c.requires.0 c.requires.1 in
-    rw (c.mul_div-2.ensures, c.ln_quotient-2.ensures, to_z-of_z f.ln_fits, to_z-of_z f.quotient_fits)
-    (to_z-of_z (f.fits _ (lit≤ tt)) ∙ rw (le-ltb v 180 c.if-v-lt180.false, ln_z10_fixed, lt-leb v 500 c.if-v-le500.false))
+    rw (c.mul_div-else-v-le-JUMP.ensures, c.ln_quotient-else-v-le-JUMP.ensures, to_z-of_z f.ln_fits, to_z-of_z f.quotient_fits)
+    (to_z-of_z (f.fits _ (lit≤ tt)) ∙ rw (le-ltb v 180 c.if-v-lt180.false, ln_z10_fixed, lt-leb v 500 c.if-v-le-JUMP.false))

@@ -1,161 +1,54 @@
--- "ok" is put, the five figures one after another, and the letters.
-use Rattle.std.proofs.Common.{ℕ, ◌+◌, ◌≤◌, List, ◌++◌, length, arith}
+-- The word is put, then figure by figure, then the letters. Assumes nothing.
+use Rattle.std.proofs.Common.{◌≡◌, ◌≤◌, ◌+◌, ◌++◌, List, length, slice_index_or, drop, ap, pos, subst, ℕ, arith}
+use Rattle.request.specs.declared.Field.TheVariants.{Measured}
 use Rattle.request.specs.declared.Request.{Request}
-use Rattle.lent.specs.Lent.{Written}
-use Rattle.lent.proofs.PutLaws.{shorter, room_after, then}
+use Rattle.lent.proofs.PutLaws.{shorter}
+use Rattle.lent.proofs.LeftLaws.{Left, all_left, less-left, none_left}
 use Rattle.numerals.specs.Render.{ascii}
-use Rattle.lines.specs.Lines.{spaced, letters, ok_line}
+use Rattle.lines.specs.Lines.{spaced, columns, letters, ok_line}
+use Rattle.lines.proofs.LineLaws.{figures, open_ok, figure_left, rest_left}
 use Rattle.lines.proofs.write.put_ok.Goals as goal
 
--- the texts that grow: "ok", and one figure more in each
-module _ (c : Request) where
-  abbrev text0 : List ℕ
-  text0 = ascii "ok "
+-- before anything is written
+whole : (c : Request) (b : List ℕ) → length (ok_line c) ≤ length b → Left b 0 (ok_line c) b 0 (ascii "ok " ++ (figures (columns c) ++ letters c))
+whole c b h = subst (Left b 0 (ok_line c) b 0) (open_ok c) (all_left b 0 (ok_line c) (omega (arith, h)))
 
-  abbrev text1 : List ℕ
-  text1 = text0 ++ spaced c.dip
-
-  abbrev text2 : List ℕ
-  text2 = text1 ++ spaced c.w
-
-  abbrev text3 : List ℕ
-  text3 = text2 ++ spaced c.ztor
-
-  abbrev text4 : List ℕ
-  text4 = text3 ++ spaced c.rrup
-
-  abbrev text5 : List ℕ
-  text5 = text4 ++ spaced c.z25
-
--- each fits where the line does
-module _ (c : Request) (n : ℕ) (h : length (ok_line c) ≤ n) where
-  room6 : 0 + length (text5 c ++ letters c) ≤ n
-  unfolding ok_line
-  room6 = omega arith
-
-  room5 : 0 + length (text4 c ++ spaced c.z25) ≤ n
-  room5 = shorter 0 (text5 c) (letters c) room6
-
-  room4 : 0 + length (text3 c ++ spaced c.rrup) ≤ n
-  room4 = shorter 0 (text4 c) (spaced c.z25) room5
-
-  room3 : 0 + length (text2 c ++ spaced c.ztor) ≤ n
-  room3 = shorter 0 (text3 c) (spaced c.rrup) room4
-
-  room2 : 0 + length (text1 c ++ spaced c.w) ≤ n
-  room2 = shorter 0 (text2 c) (spaced c.ztor) room3
-
-  room1 : 0 + length (text0 c ++ spaced c.dip) ≤ n
-  room1 = shorter 0 (text1 c) (spaced c.w) room2
-
-  room0 : 0 + length (text0 c) ≤ n
-  room0 = shorter 0 (text0 c) (spaced c.dip) room1
-
--- what is written after each call
-module _ (c : Request) (b : List ℕ) (h : length (ok_line c) ≤ length b) where
-  module _ {q0 : ℕ} {b0 : List ℕ} (w0 : Written b 0 (text0 c) q0 b0) where
-    next1 : q0 + length (spaced c.dip) ≤ length b0
-    next1 = room_after w0 (spaced c.dip) (room1 c (length b) h)
-
-    after1 : {q : ℕ} {b1 : List ℕ} → Written b0 q0 (spaced c.dip) q b1 → Written b 0 (text1 c) q b1
-    after1 v = then w0 (spaced c.dip) (room1 c (length b) h) v
-
-  module _ {q0 : ℕ} {b0 : List ℕ} (w0 : Written b 0 (text1 c) q0 b0) where
-    next2 : q0 + length (spaced c.w) ≤ length b0
-    next2 = room_after w0 (spaced c.w) (room2 c (length b) h)
-
-    after2 : {q : ℕ} {b1 : List ℕ} → Written b0 q0 (spaced c.w) q b1 → Written b 0 (text2 c) q b1
-    after2 v = then w0 (spaced c.w) (room2 c (length b) h) v
-
-  module _ {q0 : ℕ} {b0 : List ℕ} (w0 : Written b 0 (text2 c) q0 b0) where
-    next3 : q0 + length (spaced c.ztor) ≤ length b0
-    next3 = room_after w0 (spaced c.ztor) (room3 c (length b) h)
-
-    after3 : {q : ℕ} {b1 : List ℕ} → Written b0 q0 (spaced c.ztor) q b1 → Written b 0 (text3 c) q b1
-    after3 v = then w0 (spaced c.ztor) (room3 c (length b) h) v
-
-  module _ {q0 : ℕ} {b0 : List ℕ} (w0 : Written b 0 (text3 c) q0 b0) where
-    next4 : q0 + length (spaced c.rrup) ≤ length b0
-    next4 = room_after w0 (spaced c.rrup) (room4 c (length b) h)
-
-    after4 : {q : ℕ} {b1 : List ℕ} → Written b0 q0 (spaced c.rrup) q b1 → Written b 0 (text4 c) q b1
-    after4 v = then w0 (spaced c.rrup) (room4 c (length b) h) v
-
-  module _ {q0 : ℕ} {b0 : List ℕ} (w0 : Written b 0 (text4 c) q0 b0) where
-    next5 : q0 + length (spaced c.z25) ≤ length b0
-    next5 = room_after w0 (spaced c.z25) (room5 c (length b) h)
-
-    after5 : {q : ℕ} {b1 : List ℕ} → Written b0 q0 (spaced c.z25) q b1 → Written b 0 (text5 c) q b1
-    after5 v = then w0 (spaced c.z25) (room5 c (length b) h) v
-
-pub put_text-p0-requires : goal.put_text-p0-requires
+pub put_slice-at-requires : goal.put_slice-at-requires
 unfolding ascii
-put_text-p0-requires c = room0 c.args.c (length c.args.out.now) c.requires
+put_slice-at-requires c =
+    shorter 0 (ascii "ok ") (figures (columns c.args.c) ++ letters c.args.c) (whole c.args.c c.args.out.now c.requires).room
 
-pub put_figure-p1-requires : goal.put_figure-p1-requires
+pub loop-f-init : goal.loop-f-init
 unfolding ascii
-put_figure-p1-requires c = next1 c.args.c c.args.out.now c.requires c.put_text-p0.ensures
+loop-f-init c = (
+  c.columns-f-items.ensures,
+  rw c.columns-f-items.ensures
+      (less-left (ascii "ok ") (figures (columns c.args.c) ++ letters c.args.c) (whole c.args.c c.args.out.now c.requires) c.put_slice-at.ensures),
+)
 
-pub put_figure-p2-requires : goal.put_figure-p2-requires
-unfolding ascii
-put_figure-p2-requires c =
-    next2 c.args.c c.args.out.now c.requires (after1 c.args.c c.args.out.now c.requires c.put_text-p0.ensures c.put_figure-p1.ensures)
+pub put_figure-at-requires : goal.put_figure-at-requires
+put_figure-at-requires c =
+    let fs = c.columns-f-items.result in
+    let i = c.loop-f.f-index in
+    shorter c.loop-f.at (spaced (slice_index_or fs i (Measured (pos 0)))) (figures (drop (i + 1) fs) ++ letters c.args.c)
+    (figure_left fs i (letters c.args.c) c.loop-f.invariant.1 (omega (arith, ap length c.columns-f-items.ensures))).room
 
-pub put_figure-p3-requires : goal.put_figure-p3-requires
-unfolding ascii
-put_figure-p3-requires c =
-    let r = c.args.c in
-    let b = c.args.out.now in
-    let h = c.requires in
-    next3 r b h (after2 r b h (after1 r b h c.put_text-p0.ensures c.put_figure-p1.ensures) c.put_figure-p2.ensures)
-
-pub put_figure-p4-requires : goal.put_figure-p4-requires
-unfolding ascii
-put_figure-p4-requires c =
-    let r = c.args.c in
-    let b = c.args.out.now in
-    let h = c.requires in
-    next4 r b h
-    (after3 r b h (after2 r b h (after1 r b h c.put_text-p0.ensures c.put_figure-p1.ensures) c.put_figure-p2.ensures) c.put_figure-p3.ensures)
-
-pub put_figure-p5-requires : goal.put_figure-p5-requires
-unfolding ascii
-put_figure-p5-requires c =
-    let r = c.args.c in
-    let b = c.args.out.now in
-    let h = c.requires in
-    next5 r b h
-    (after4 r b h
-    (after3 r b h (after2 r b h (after1 r b h c.put_text-p0.ensures c.put_figure-p1.ensures) c.put_figure-p2.ensures) c.put_figure-p3.ensures)
-    c.put_figure-p4.ensures)
+pub loop-f-preserved : goal.loop-f-preserved
+loop-f-preserved c =
+    let fs = c.columns-f-items.result in
+    let i = c.loop-f.f-index in (
+      c.columns-f-items.ensures,
+      less-left (spaced (slice_index_or fs i (Measured (pos 0)))) (figures (drop (i + 1) fs) ++ letters c.args.c)
+          (figure_left fs i (letters c.args.c) c.loop-f.invariant.1 (omega (arith, ap length c.columns-f-items.ensures)))
+          c.put_figure-at.ensures,
+    )
 
 pub put_letters-requires : goal.put_letters-requires
-unfolding ascii
 put_letters-requires c =
-    let r = c.args.c in
-    let b = c.args.out.now in
-    let h = c.requires in
-    room_after
-    (after5 r b h
-    (after4 r b h
-    (after3 r b h (after2 r b h (after1 r b h c.put_text-p0.ensures c.put_figure-p1.ensures) c.put_figure-p2.ensures) c.put_figure-p3.ensures)
-    c.put_figure-p4.ensures)
-    c.put_figure-p5.ensures)
-    (letters r)
-    (room6 r (length b) h)
+    (rest_left c.columns-f-items.result c.loop-f.f-index (letters c.args.c) c.loop-f.invariant.1 (omega (arith, ap length c.columns-f-items.ensures))).room
 
 pub returns : goal.returns
-unfolding ok_line ascii
 returns c =
-    let r = c.args.c in
-    let b = c.args.out.now in
-    let h = c.requires in
-    then
-    (after5 r b h
-    (after4 r b h
-    (after3 r b h (after2 r b h (after1 r b h c.put_text-p0.ensures c.put_figure-p1.ensures) c.put_figure-p2.ensures) c.put_figure-p3.ensures)
-    c.put_figure-p4.ensures)
-    c.put_figure-p5.ensures)
-    (letters r)
-    (room6 r (length b) h)
+    none_left (letters c.args.c)
+    (rest_left c.columns-f-items.result c.loop-f.f-index (letters c.args.c) c.loop-f.invariant.1 (omega (arith, ap length c.columns-f-items.ensures)))
     c.put_letters.ensures

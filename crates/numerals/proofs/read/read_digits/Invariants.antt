@@ -1,10 +1,8 @@
--- What the rest says after the digits passed is what the whole says.
-use Rattle.std.proofs.Common.{length, drop, ◌-◌, ◌≤◌, ◌≡◌}
-use Rattle.numerals.specs.Plain.{largest, digits_of}
+-- The number so far, with the digits that are left, makes the whole.
+use Rattle.std.proofs.Common.{drop, ◌≤◌, ◌≡◌}
+use Rattle.numerals.specs.Plain.{largest}
+use Rattle.numerals.proofs.PlainLaws.{Read}
 use Rattle.numerals.proofs.read.read_digits.Given as goal
 
-abbrev pub invariant-loop-i : goal.invariant-loop-i
-invariant-loop-i l = (l.i ≤ length l.s) × (l.n ≤ largest) × (digits_of 0 l.s ≡ digits_of l.n (drop l.i l.s))
-
-abbrev pub decreases-loop-i : goal.decreases-loop-i
-decreases-loop-i l = length l.s - l.i
+abbrev pub invariant-loop-c : goal.invariant-loop-c
+invariant-loop-c l = (l.n ≤ largest) × (Read l.n (drop l.c-index l.s) ≡ Read 0 l.s)

@@ -75,9 +75,9 @@ returns-then-twos-lt32 c =
     right _ _ c.exp_unit-unit.ensures.0 c.if-twos-lt32.true
     ∙ ap (λ (z : ℤ). exp_shifted (nat_abs z)) (y_is c.args.x c.ranges.x c.requires.0 c.requires.1)
 
-pub returns : goal.returns
+pub returns-else-twos-lt32 : goal.returns-else-twos-lt32
 unfolding exp_fixed
-returns c =
+returns-else-twos-lt32 c =
     let e = y_is c.args.x c.ranges.x c.requires.0 c.requires.1 in
     left _ _ c.exp_unit-unit.ensures.0 c.exp_unit-unit.ensures.1 c.if-twos-lt32.false (rw e (few c.args.x c.requires.0))
     ∙ ap (λ (z : ℤ). exp_shifted (nat_abs z)) e

@@ -3,11 +3,11 @@ use Prim.Native.Nat.{ℕ, zero, suc, ◌+◌, ◌*◌, ◌/◌, ◌^◌, ◌≤�
 use mathlib.Core.Path.{◌≡◌, ap, ◌∙◌}
 use native.Mathlib.Nat.{le_trans, le_of_eq, pow-suc, mul_assoc, mul_comm}
 use native.Mathlib.Omega.{arith}
-use lib.Dec.{lit<}
 use lib.IntN.{pos, ◌-ℤ◌}
+use mir.Syntax.{w64}
+use mir.Facts.{to_z-of_z}
 use Rattle.fixed.specs.Fixed.{ln_two, LN8, ln_ratio, ln_doubled, ln_quotient}
 use Rattle.fixed.proofs.LnTwos.{doubled_last, doubled_more}
-use Rattle.reckon.proofs.Fitting.{less-is}
 use Rattle.reckon.proofs.ln.ln_quotient.Invariants.{Inv}
 use Rattle.reckon.proofs.ln.ln_quotient.Goals as goal
 
@@ -49,6 +49,7 @@ loop-bottom-preserved c =
 pub returns : goal.returns
 unfolding ln_quotient
 returns c =
-    less-is _ LN8 (omega (arith, c.loop-bottom.invariant.left_is, c.ln_ratio.ensures.1)) (lit< tt)
+    to_z-of_z {w = w64} (record { sfits = c.less_ln8.type_inv })
+    ∙ c.less_ln8.ensures
     ∙ ap (λ (n : ℕ). pos (n / 10) -ℤ pos LN8)
     (done _ _ _ _ _ c.loop-bottom.invariant c.loop-bottom-test.false c.ln_ratio.ensures.0)

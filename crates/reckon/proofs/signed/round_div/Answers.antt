@@ -15,6 +15,7 @@ use Rattle.exact.proofs.Signed.{by_sign, same_parts, sfits-abs, lit_fits, lt-rea
 use Rattle.exact.proofs.Signed.{sub_is, add-abs, neg-abs, neg-up, neg-dn, quot-up, quot-dn}
 use Rattle.fixed.specs.Fixed.{nearest}
 use Rattle.reckon.proofs.Fitting.{quot_fits}
+use Rattle.reckon.proofs.signed.round_div.Goals.{then-a-lt0, else-a-lt0}
 use Rattle.reckon.proofs.signed.round_div.Goals as goal
 
 -- ---- the rounding, on either side of zero
@@ -61,20 +62,17 @@ module _ (a : ℤ) (d : ℕ) (h : nat_abs a ≤ 2 ^ 62) (k : d ≤ 2 ^ 62) where
   whole : to_z w64 d ≡ pos d
   whole = to_z_pos w64 (omega arith)
 
-pub returns-then-a-lt0 : goal.returns-then-a-lt0
-returns-then-a-lt0 c =
-    let a = c.args.a in
-    let d = c.args.d in
-    let h = c.requires.0 in
-    let k = c.requires.2 in
-    simp (to_z-of_z c.ranges.a, half a d h k, to_z-of_z (lower-fits a d h k), whole a d h k, to_z-of_z (lower-quot a d h k))
-    (below a d (lt-read c.ranges.a (lit_fits (pos 0) tt) c.if-a-lt0.true))
-
 pub returns : goal.returns
 returns c =
     let a = c.args.a in
     let d = c.args.d in
     let h = c.requires.0 in
     let k = c.requires.2 in
-    simp (to_z-of_z c.ranges.a, half a d h k, to_z-of_z (upper_fits a d h k), whole a d h k, to_z-of_z (upper-quot a d h k))
-    (above a d (lt-read c.ranges.a (lit_fits (pos 0) tt) c.if-a-lt0.false))
+    elim c.if-a-lt0.branch [
+      | then-a-lt0 w ↦
+          simp (w.away-is, to_z-of_z c.ranges.a, half a d h k, to_z-of_z (lower-fits a d h k), whole a d h k, to_z-of_z (lower-quot a d h k))
+          (below a d (lt-read c.ranges.a (lit_fits (pos 0) tt) w.if-a-lt0.true))
+      | else-a-lt0 w ↦
+          simp (w.away-is, to_z-of_z c.ranges.a, half a d h k, to_z-of_z (upper_fits a d h k), whole a d h k, to_z-of_z (upper-quot a d h k))
+          (above a d (lt-read c.ranges.a (lit_fits (pos 0) tt) w.if-a-lt0.false))
+    ]

@@ -1,114 +1,78 @@
--- The numbers of the fields are written, and then their origins.
-use Rattle.std.proofs.Common.{◌≡◌, ℕ, ◌+◌, ◌*◌, ◌≤◌, ◌<◌, List, [], ◌∷◌, ◌++◌, length, take, get_or, pos, refl, sym, ap, ◌∙◌, arith, length-append}
-use Rattle.std.proofs.Math.Seq.{take_all, length-take-le}
+-- Of what is left the first number, or the first origin, is written.
+use Rattle.std.proofs.Common.{◌≡◌, ℕ, ◌+◌, ◌≤◌, ◌<◌, List, [], ◌∷◌, ◌++◌, length, drop, get_or, pos, ap, arith}
+use Rattle.std.proofs.Math.ListN.{drop_of_length-le}
 use Rattle.request.specs.declared.Field.{Field}
 use Rattle.request.specs.declared.Field.TheVariants.{Measured}
 use Rattle.request.specs.declared.Request.{Request}
 use Rattle.fields.specs.Held.{fields_in}
-use Rattle.fields.proofs.FieldsLaws.{thirteen}
 use Rattle.lent.specs.Lent.{Written}
-use Rattle.lent.proofs.PutLaws.{put-nothing, then}
-use Rattle.records.specs.Records.{high_first, number_of, origin_of, fields, numbers_of, origins_of, record_of}
+use Rattle.lent.proofs.PutLaws.{shorter}
+use Rattle.lent.proofs.LeftLaws.{Left, all_left, less-left, nothing_left}
+use Rattle.records.specs.Records.{high_first, number_of, origin_of, fields, record_size, numbers_of, origins_of}
 use Rattle.records.proofs.NumberBack.{length_high}
-use Rattle.records.proofs.RecordBack.{length_numbers, length_origins}
-use Rattle.records.proofs.FieldByField.{numbers_more, origins_more}
+use Rattle.records.proofs.RecordBack.{length_record}
+use Rattle.records.proofs.FieldByField.{numbers_left, origins_left, record_is, thirteen_fields}
 use Rattle.records.proofs.write.put_record.Goals as goal
 
-nothing_yet : (b : List ℕ) (p : ℕ) → Written b p [] p b
-nothing_yet b p = record { place = omega arith; became = put-nothing b p }
+abbrev default : Field
+default = Measured (pos 0)
 
-module _ (f : List Field) (all : length f ≡ fields) where
-  -- ---- the numbers
-  module _ {b₀ b : List ℕ} {at p : ℕ} (k : ℕ) (inside : k ≤ fields) (w : Written b₀ at (numbers_of (take k f)) p b) where
-    numbers_place : p ≡ at + 4 * k
-    numbers_place = omega (arith, w.place, length_numbers (take k f), length-take-le k f (omega (arith, all)))
+module _ {b₀ b : List ℕ} {at p : ℕ} {s : List ℕ} (fs : List Field) (all : length fs ≡ fields) (k : ℕ) where
+  one_number : k < fields → (t : List ℕ) → Left b₀ at s b p (numbers_of (drop k fs) ++ t)
+      → Left b₀ at s b p (high_first 4 (number_of (get_or fs k default)) ++ (numbers_of (drop (k + 1) fs) ++ t))
+  one_number h t l = rw (numbers_left default fs k (omega (arith, all, h)) t) at l
 
-    more_numbers : {q : ℕ} {b₁ : List ℕ} → k < fields → at + 65 ≤ length b₀ → Written b p (high_first 4 (number_of (get_or f k (Measured (pos 0))))) q b₁
-        → Written b₀ at (numbers_of (take (k + 1) f)) q b₁
-    more_numbers h room v =
-        let n = number_of (get_or f k (Measured (pos 0))) in
-        rw (numbers_more (Measured (pos 0)) f k (omega (arith, all)))
-        (then w (high_first 4 n)
-        (omega (arith, length-append (numbers_of (take k f)) (high_first 4 n), length_high 4 n, w.place, numbers_place))
-        v)
+  one_origin : k < fields → Left b₀ at s b p (origins_of (drop k fs)) → Left b₀ at s b p ((origin_of (get_or fs k default) ∷ []) ++ origins_of (drop (k + 1) fs))
+  one_origin h l = rw (origins_left default fs k (omega (arith, all, h))) at l
 
-  -- ---- the origins
-  module _ {b₀ b : List ℕ} {at p : ℕ} (j : ℕ) (inside : j ≤ fields) (w : Written b₀ at (origins_of (take j f)) p b) where
-    origins_place : p ≡ at + j
-    origins_place = omega (arith, w.place, length_origins (take j f), length-take-le j f (omega (arith, all)))
+  no_number : fields ≤ k → (t : List ℕ) → Left b₀ at s b p (numbers_of (drop k fs) ++ t) → Left b₀ at s b p t
+  unfolding numbers_of
+  no_number h t l = rw (drop_of_length-le fs {i = k} (omega (arith, all, h))) at l
 
-    more_origins : {q : ℕ} {b₁ : List ℕ} → j < fields → at + 13 ≤ length b₀ → Written b p (origin_of (get_or f j (Measured (pos 0))) ∷ []) q b₁
-        → Written b₀ at (origins_of (take (j + 1) f)) q b₁
-    more_origins h room v =
-        let x : List ℕ = origin_of (get_or f j (Measured (pos 0))) ∷ [] in
-        rw (origins_more (Measured (pos 0)) f j (omega (arith, all)))
-        (then w x (omega (arith, length-append (origins_of (take j f)) x, w.place, origins_place)) v)
+  no_origin : fields ≤ k → Left b₀ at s b p (origins_of (drop k fs)) → Written b₀ at s p b
+  unfolding origins_of
+  no_origin h l = nothing_left (rw (drop_of_length-le fs {i = k} (omega (arith, all, h))) at l)
 
--- ---- both
-record_is : (r : Request) (fs : List Field) → fs ≡ fields_in r → record_of r ≡ numbers_of fs ++ origins_of fs
-unfolding record_of
-record_is r fs e = ap (λ (l : List Field). numbers_of l ++ origins_of l) (sym e)
+fits : (b : List ℕ) (at : ℕ) (r : Request) (fs : List Field) → fs ≡ fields_in r → at + record_size ≤ length b → at + length (numbers_of fs ++ origins_of fs) ≤ length b
+fits b at r fs e h = omega (arith, ap length (record_is r fs e), length_record r, h)
 
-thirteen_read : (r : Request) (f : List Field) → f ≡ fields_in r → length f ≡ fields
-thirteen_read r f e = ap length e ∙ thirteen r
-
-pub loop-k-init : goal.loop-k-init
-unfolding numbers_of
-loop-k-init c = (omega arith, refl, nothing_yet _ _)
+pub loop-field-init : goal.loop-field-init
+loop-field-init c = all_left _ _ _ (fits c.args.b.now c.args.at c.args.r c.fields_of-f.result c.fields_of-f.ensures c.requires)
 
 pub put_long-p-requires : goal.put_long-p-requires
 put_long-p-requires c =
-    omega (
-      arith,
-      numbers_place c.fields_of-f.result (thirteen_read c.args.r c.fields_of-f.result c.fields_of-f.ensures) c.loop-k.k c.loop-k.invariant.0 c.loop-k.invariant.2,
-      c.loop-k.invariant.1,
-      c.requires,
-    )
+    let fs = c.fields_of-f.result in
+    let all = thirteen_fields c.args.r fs c.fields_of-f.ensures in
+    let k = c.loop-field.field-index in
+    let n = number_of (get_or fs k default) in
+    omega (arith, length_high 4 n, shorter _ (high_first 4 n) _ (one_number fs all k c.loop-field-test.true _ c.loop-field.invariant).room)
 
-pub loop-k-preserved : goal.loop-k-preserved
-loop-k-preserved c = (
-  omega arith,
-  omega (arith, c.put_long-p.auto.b, c.loop-k.invariant.1),
-  more_numbers c.fields_of-f.result (thirteen_read c.args.r c.fields_of-f.result c.fields_of-f.ensures) c.loop-k.k c.loop-k.invariant.0 c.loop-k.invariant.2
-      c.loop-k-test.true c.requires (rw c.number_of.ensures at c.put_long-p.ensures),
-)
+pub loop-field-preserved : goal.loop-field-preserved
+loop-field-preserved c =
+    let fs = c.fields_of-f.result in
+    let all = thirteen_fields c.args.r fs c.fields_of-f.ensures in
+    less-left _ _ (one_number fs all c.loop-field.field-index c.loop-field-test.true _ c.loop-field.invariant) (rw c.number_of.ensures at c.put_long-p.ensures)
 
-pub loop-j-init : goal.loop-j-init
-unfolding origins_of
-loop-j-init c = (omega arith, refl, nothing_yet _ _)
-
--- behind all the numbers there is room for the origins
-room : (f : List Field) {b₀ b : List ℕ} {at p : ℕ} (k : ℕ) → length f ≡ fields → k ≤ fields → 13 ≤ k → length b ≡ length b₀ → at + 65 ≤ length b₀
-    → Written b₀ at (numbers_of (take k f)) p b → p + 13 ≤ length b
-room f k all h m l r w = omega (arith, numbers_place f all k h w)
+pub loop-field-2-init : goal.loop-field-2-init
+loop-field-2-init c =
+    let fs = c.fields_of-f.result in
+    no_number fs (thirteen_fields c.args.r fs c.fields_of-f.ensures) c.loop-field.field-index c.loop-field-test.false _ c.loop-field.invariant
 
 pub put_byte-p-requires : goal.put_byte-p-requires
 put_byte-p-requires c =
-    let all = thirteen_read c.args.r c.fields_of-f.result c.fields_of-f.ensures in
-    omega (
-      arith,
-      origins_place c.fields_of-f.result all c.loop-j.j c.loop-j.invariant.0 c.loop-j.invariant.2,
-      room c.fields_of-f.result c.loop-k.k all c.loop-k.invariant.0 c.loop-k-test.false c.loop-k.invariant.1 c.requires c.loop-k.invariant.2,
-      c.loop-j.invariant.1,
-    )
+    let fs = c.fields_of-f.result in
+    let all = thirteen_fields c.args.r fs c.fields_of-f.ensures in
+    let k = c.loop-field-2.field-index in
+    shorter _ (origin_of (get_or fs k default) ∷ []) _ (one_origin fs all k c.loop-field-2-test.true c.loop-field-2.invariant).room
 
-pub loop-j-preserved : goal.loop-j-preserved
-loop-j-preserved c =
-    let all = thirteen_read c.args.r c.fields_of-f.result c.fields_of-f.ensures in (
-      omega arith,
-      omega (arith, c.put_byte-p.auto.b, c.loop-j.invariant.1),
-      more_origins c.fields_of-f.result all c.loop-j.j c.loop-j.invariant.0 c.loop-j.invariant.2 c.loop-j-test.true
-          (room c.fields_of-f.result c.loop-k.k all c.loop-k.invariant.0 c.loop-k-test.false c.loop-k.invariant.1 c.requires c.loop-k.invariant.2)
-          (rw c.origin_of.ensures at c.put_byte-p.ensures),
-    )
+pub loop-field-2-preserved : goal.loop-field-2-preserved
+loop-field-2-preserved c =
+    let fs = c.fields_of-f.result in
+    let all = thirteen_fields c.args.r fs c.fields_of-f.ensures in
+    less-left _ _ (one_origin fs all c.loop-field-2.field-index c.loop-field-2-test.true c.loop-field-2.invariant) (rw c.origin_of.ensures at c.put_byte-p.ensures)
 
 pub returns : goal.returns
 returns c =
-    let f = c.fields_of-f.result in
-    let all = thirteen_read c.args.r f c.fields_of-f.ensures in
-    let k : take c.loop-k.k f ≡ f = take_all c.loop-k.k f (omega (arith, all, c.loop-k-test.false)) in
-    let j : take c.loop-j.j f ≡ f = take_all c.loop-j.j f (omega (arith, all, c.loop-j-test.false)) in
-    rw (record_is c.args.r f c.fields_of-f.ensures)
-    (then (rw k at c.loop-k.invariant.2) (origins_of f)
-    (omega (arith, length-append (numbers_of f) (origins_of f), length_numbers f, length_origins f, all, c.requires))
-    (rw j at c.loop-j.invariant.2))
+    let fs = c.fields_of-f.result in
+    let all = thirteen_fields c.args.r fs c.fields_of-f.ensures in
+    rw (record_is c.args.r fs c.fields_of-f.ensures) at (no_origin fs all c.loop-field-2.field-index c.loop-field-2-test.false c.loop-field-2.invariant)

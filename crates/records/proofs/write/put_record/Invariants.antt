@@ -1,17 +1,15 @@
--- The numbers, or the origins, of the fields passed are written. The measure is how many are left.
-use Rattle.std.proofs.Common.{◌≡◌, ◌-◌, ◌≤◌, length, take}
-use Rattle.lent.specs.Lent.{Written}
-use Rattle.records.specs.Records.{fields, numbers_of, origins_of}
+-- What is left to be written of the record: the numbers of the fields that are left and all origins, then the origins of those that are left.
+use Rattle.std.proofs.Common.{◌++◌, drop}
+use Rattle.lent.proofs.LeftLaws.{Left}
+use Rattle.records.specs.Records.{numbers_of, origins_of}
 use Rattle.records.proofs.write.put_record.Given as goal
 
-abbrev pub invariant-loop-k : goal.invariant-loop-k
-invariant-loop-k l = (l.k ≤ fields) × (length l.b ≡ length l.initial.b) × Written l.initial.b l.at (numbers_of (take l.k l.f)) l.p l.b
+abbrev pub invariant-loop-field : goal.invariant-loop-field
+invariant-loop-field l =
+    let fs = l.field-items in
+    Left l.initial.b l.at (numbers_of fs ++ origins_of fs) l.b l.p (numbers_of (drop l.field-index fs) ++ origins_of fs)
 
-abbrev pub decreases-loop-k : goal.decreases-loop-k
-decreases-loop-k l = fields - l.k
-
-abbrev pub invariant-loop-j : goal.invariant-loop-j
-invariant-loop-j l = (l.j ≤ fields) × (length l.b ≡ length l.initial.b) × Written l.initial.b l.initial.p (origins_of (take l.j l.f)) l.p l.b
-
-abbrev pub decreases-loop-j : goal.decreases-loop-j
-decreases-loop-j l = fields - l.j
+abbrev pub invariant-loop-field-2 : goal.invariant-loop-field-2
+invariant-loop-field-2 l =
+    let fs = l.field-items in
+    Left l.fn.b l.at (numbers_of fs ++ origins_of fs) l.b l.p (origins_of (drop l.field-index fs))

@@ -22,10 +22,10 @@ module _ (b : List ℕ) (count : ℕ) (long : 7 ≤ length b) where
 pub put_short-requires : goal.put_short-requires
 unfolding high_first ascii
 put_short-requires c =
-    room_after (marked c.args.b.now c.args.count c.requires c.put_text-p.ensures c.put_short-q.ensures) (high_first 2 c.args.count) (room c.args.b.now c.args.count c.requires)
+    room_after (marked c.args.b.now c.args.count c.requires c.put_slice-p.ensures c.put_short-q.ensures) (high_first 2 c.args.count) (room c.args.b.now c.args.count c.requires)
 
 pub returns : goal.returns
 unfolding head_of ascii
 returns c =
-    then (marked c.args.b.now c.args.count c.requires c.put_text-p.ensures c.put_short-q.ensures) (high_first 2 c.args.count) (room c.args.b.now c.args.count c.requires)
+    then (marked c.args.b.now c.args.count c.requires c.put_slice-p.ensures c.put_short-q.ensures) (high_first 2 c.args.count) (room c.args.b.now c.args.count c.requires)
     c.put_short.ensures
