@@ -60,7 +60,7 @@ fn finish<F: OpenFile + Drop>(
     };
     begun.discard(rt);
     if let Failure::Refused(refusal) = failure {
-        say_no(rt, refusal);
+        say_no(rt, u32::from(refusal));
     }
     Err(Failed)
 }

@@ -1,11 +1,11 @@
 -- What was written first in lent bytes stands there; what may come of a block, and how a run ends. Assumes nothing.
 use Prim.Native.Nat.{ℕ, ◌+◌, ◌≤◌}
-use mathlib.Core.Path.{◌≡◌, refl, ap, ◌∙◌}
+use mathlib.Core.Path.{◌≡◌, refl, sym, subst, ap, ◌∙◌}
 use mathlib.Core.Bool.{Bool}
 use mathlib.Core.List.{List}
 use native.Mathlib.Omega.{arith}
 use lib.ListN.{length, take}
-use Rattle.std.specs.Prelude.{Result, Ok, Err}
+use Rattle.std.specs.Prelude.{Option, Some, None, Result, Ok, Err}
 use Rattle.std.proofs.Common.{inl, inr}
 use Rattle.cuts.specs.Cuts.{up_to}
 use Rattle.lent.specs.Lent.{Written}
@@ -13,7 +13,7 @@ use Rattle.lent.proofs.PutLaws.{length-put, take_put}
 use Rattle.numerals.specs.Render.{lf}
 use Rattle.file_streams.specs.declared.Failure.{Failure}
 use Rattle.file_streams.specs.declared.Failure.TheVariants as F
-use Rattle.file_streams.specs.Ends.{lines_so_far, Stepped, StepEnds, Taken, too_long, taken, Closed, PackEnd, Behind, UnpackEnd}
+use Rattle.file_streams.specs.Ends.{lines_so_far, Stepped, StepEnds, ReadTo, Taken, too_long, taken, Closed, ReadEnd, PackEnd, Behind, UnpackEnd}
 
 -- ---- what was written first in lent bytes stands there
 module _ {b s : List ℕ} {p : ℕ} {b₁ : List ℕ} (room : length s ≤ length b) (w : Written b 0 s p b₁) where
@@ -41,6 +41,12 @@ pub closed_end : (kept count : ℕ) (r : Result (Unit {0}) Failure) → Closed k
 closed_end kept count (Ok u) h = tt
 closed_end kept count (Err (F.Refused k)) h = elim h [ inl a ↦ inl a.1 | inr a ↦ inr a.2 ]
 closed_end kept count (Err F.System) h = tt
+
+pub read_end :
+    (room kept count : ℕ) (read : Result (Option ℕ) Failure) (r : Result (Unit {0}) Failure) → ReadTo room read → ReadEnd kept count read r → PackEnd r
+read_end room kept count (Ok (Some n)) r l h = subst PackEnd (sym h) tt
+read_end room kept count (Ok None) r l h = closed_end kept count r h
+read_end room kept count (Err f) r l h = subst PackEnd (sym (h ∙ ap (λ (e : Failure). Err e) l)) tt
 
 pub behind_end : (sound : Bool) (r : Result (Unit {0}) Failure) → Behind sound r → UnpackEnd r
 behind_end sound (Ok u) h = tt

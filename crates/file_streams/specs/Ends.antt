@@ -55,6 +55,12 @@ Closed kept count (Ok u) = (kept ≤ 0) × (count ≤ most_records)
 Closed kept count (Err (F.Refused k)) = ((0 < kept) × (k ≡ No.Malformed)) ⊎ ((kept ≤ 0) × (most_records < count) × (k ≡ No.FileLength))
 Closed kept count (Err F.System) = Unit {0}
 
+-- where nothing more is read: the end of the list, or a failure
+abbrev pub ReadEnd : ℕ → ℕ → Result (Option ℕ) Failure → Result (Unit {0}) Failure → Type 0
+ReadEnd kept count (Ok (Some n)) e = e ≡ Err F.System
+ReadEnd kept count (Ok None) e = Closed kept count e
+ReadEnd kept count (Err f) e = e ≡ Err f
+
 -- a run: whole, refused with a number of the writer's, or failed by the system
 abbrev pub PackEnd : Result (Unit {0}) Failure → Type 0
 PackEnd (Ok u) = Unit {0}

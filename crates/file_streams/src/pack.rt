@@ -4,7 +4,7 @@ ghost use Rattle.std.specs.Prelude.{◌≡◌, ◌+◌, ◌≤◌, length, take,
 ghost use Rattle.list_lines.specs.ListLines.{lines_of, requests_in};
 ghost use Rattle.site_files.specs.Format.{most_records, head_of, records_of};
 ghost use Rattle.file_streams.specs.declared.Failure.TheVariants.{System};
-ghost use Rattle.file_streams.specs.Ends.{block_size, held_by, ReadTo, Stepped, Taken, Closed, PackEnd};
+ghost use Rattle.file_streams.specs.Ends.{block_size, held_by, ReadTo, Stepped, Taken, Closed, ReadEnd, PackEnd};
 
 use crate::held::Held;
 use crate::{Failure, Named, ROOM};
@@ -115,6 +115,23 @@ fn take_block(
     pack_lines(file, count, &block[..cut], out)
 }
 
+// How a run ends where nothing more is read.
+fn end_read(
+    read: Result<Option<usize>, Failure>,
+    file: &mut Named<impl Eprint, impl Write + Seek>,
+    held: &Held,
+    count: usize,
+    out: &mut [u8; ROOM],
+) -> Result<(), Failure>
+    ensures { ReadEnd held.now.count count read result }
+{
+    match read {
+        Ok(Some(_)) => Err(Failure::System),
+        Ok(None) => end_pack(file, held.count, count, out),
+        Err(failure) => Err(failure),
+    }
+}
+
 // Lays what is held in a block and reads behind it: how many bytes there are then, if any came.
 fn read_behind(
     list: &mut Named<impl Eprint, impl Read>,
@@ -142,8 +159,9 @@ fn read_list(
     let mut held = Held::new();
     let mut count = 0usize;
     for _ in 0..u64::MAX {
-        let Some(n) = read_behind(list, &held, &mut input)? else {
-            return end_pack(file, held.count, count, out);
+        let read = read_behind(list, &held, &mut input);
+        let Ok(Some(n)) = read else {
+            return end_read(read, file, &held, count, out);
         };
         count = take_block(file, count, &input[..n], &mut held, out)?;
     }

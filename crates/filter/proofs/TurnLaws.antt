@@ -23,7 +23,8 @@ use Rattle.lists.proofs.StandLaws.{text_fits, first_taken, answer-fits, not_take
 use Rattle.lists.proofs.CloseLaws.{close_fits}
 use Rattle.lists.proofs.Progress.{taken_exactly, never-refused}
 use Rattle.filter.specs.declared.Stop.{Stop}
-use Rattle.filter.specs.Turns.{reader_after, BlockTurn, ReadTurn, Took}
+use Rattle.filter.specs.declared.Stop.TheVariants as S
+use Rattle.filter.specs.Turns.{reader_after, BlockTurn, ReadTurn, Took, EndTurn}
 
 -- ---- bytes cut in two
 pub after-append : (r : Reader) (a b : List ℕ) → reader_after r (a ++ b) ≡ reader_after (reader_after r a) b
@@ -129,22 +130,41 @@ module _ {sheet : Sheet} {r r₁ : Reader} {part b : List ℕ} {t : Result Taken
         ∙ first b stand.text (text_fits sheet (length b) r [] part (omega arith))
         ∙ ap (λ (n : ℕ). (read_from sheet n r [] part).text) (sym l)
 
+-- ---- what `read` answered
+pub unread : {E : Type 0} (r : Reader) (input : List ℕ) (e : E) → ReadTurn (Err e) r input r (Err S.Unread)
+unread r input e = (refl, refl)
+
+-- a block's turn, after which there may be more
+abbrev pub and_more : {A : Type 0} → Result A Stop → Result Bool Stop
+and_more (Ok a) = Ok true
+and_more (Err stop) = Err stop
+
+module _ (E : Type 0) (r : Reader) (input : List ℕ) where
+  pub ended : (n : ℕ) → n ≡ 0 → ReadTurn {E = E} (Ok n) r input r (Ok false)
+  ended zero e = (refl, refl)
+  ended (suc k) e = absurd (omega arith)
+
+  pub some_read :
+      {A : Type 0} (n : ℕ) (r₁ : Reader) (turn : Result A Stop) → 0 < n → BlockTurn r (take (min n (length input)) input) r₁ turn
+      → ReadTurn {E = E} (Ok n) r input r₁ (and_more turn)
+  some_read zero r₁ turn h b = absurd (omega arith)
+  some_read (suc k) r₁ (Ok a) h b = (b, refl)
+  some_read (suc k) r₁ (Err stop) h b = (b, tt)
+
 -- ---- from turn to turn
-none : {r r₁ : Reader} → r₁ ≡ r → Took r r₁
+-- a reader that is as it was has taken nothing: so a list begins, with a new one as with any other
+pub begun : {first : Reader} (r : Reader) → r ≡ first → Took first r
 unfolding reader_after
-none e = record { bytes = []; reader = e }
+begun r e = record { bytes = []; reader = e }
 
 of_block : {A : Type 0} (r r₁ : Reader) (block : List ℕ) (turn : Result A Stop) → BlockTurn r block r₁ turn → Took r r₁
 of_block r r₁ block (Ok a) h = record { bytes = block; reader = h }
-of_block r r₁ block (Err stop) h = none h.0
+of_block r r₁ block (Err stop) h = begun r₁ h.0
 
 pub of_read : {E : Type 0} (got : Result ℕ E) (r r₁ : Reader) (input : List ℕ) (turn : Result Bool Stop) → ReadTurn got r input r₁ turn → Took r r₁
-of_read (Err e) r r₁ input turn h = none h.0
-of_read (Ok zero) r r₁ input turn h = none h.0
+of_read (Err e) r r₁ input turn h = begun r₁ h.0
+of_read (Ok zero) r r₁ input turn h = begun r₁ h.0
 of_read (Ok (suc k)) r r₁ input turn h = of_block r r₁ (take (min (suc k) (length input)) input) turn h.0
-
-pub begun : (r : Reader) → Took r r
-begun r = none refl
 
 -- the list so far, and what a turn took
 pub next-turn : {r q s : Reader} → Took r q → Took q s → Took r s
@@ -153,3 +173,10 @@ next-turn {r} l m =
       bytes = l.bytes ++ m.bytes;
       reader = m.reader ∙ ap (λ (q : Reader). reader_after q m.bytes) l.reader ∙ sym (after-append r l.bytes m.bytes);
     }
+
+-- how a list ends that was read to its end: the last answer was written, or it was not
+pub ended_well : {read : Result (Unit {0}) Stop} → read ≡ Ok tt → EndTurn read (Ok tt)
+ended_well e = rw e tt
+
+pub ended_unwritten : {read : Result (Unit {0}) Stop} → read ≡ Ok tt → EndTurn read (Err S.Unwritten)
+ended_unwritten e = rw e refl

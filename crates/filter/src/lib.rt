@@ -4,7 +4,7 @@
 
 ghost use Rattle.std.specs.Prelude.{◌≤◌, ◌≡◌, [], length, IsOkUnless};
 ghost use Rattle.answer.specs.Sheets.{longest_answer};
-ghost use Rattle.lists.specs.Parts.{read_from, closing};
+ghost use Rattle.lists.specs.Parts.{new_reader, read_from, closing};
 ghost use Rattle.filter.specs.declared.Stop.TheVariants.{Unwritten};
 ghost use Rattle.filter.specs.Output.{header_of};
 ghost use Rattle.filter.specs.Turns.{BlockTurn, ReadTurn, Took, EndTurn};
@@ -131,8 +131,8 @@ fn read_block(
     answer_read(rt, sheet, reader, got, input, out)
 }
 
-// Reads the list as far as it can be read and answered. A proved loop has to end, and nothing says
-// that the input does: the turns are counted up to a number that no run comes to.
+// Reads the list from its beginning, with a new reader, as far as it can be read and answered. A proved loop has to
+// end, and nothing says that the input does: the turns are counted up to a number that no run comes to.
 fn read_list(
     rt: &(impl Print + Eprint),
     source: &mut impl Read,
@@ -141,8 +141,8 @@ fn read_list(
     input: &mut [u8],
     out: &mut [u8],
 ) -> Result<(), Stop>
-    requires { longest_answer sheet ≤ length out.old }
-    ensures { Took reader.old reader.new }
+    requires { (longest_answer sheet ≤ length out.old) × (reader.old ≡ new_reader) }
+    ensures { Took new_reader reader.new }
 {
     for _ in 0..u64::MAX {
         if !read_block(rt, source, sheet, reader, input, out)? {

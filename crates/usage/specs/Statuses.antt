@@ -25,3 +25,9 @@ abbrev pub EndsAs : {T : Type 0} → Asked T → Status → Type 0
 EndsAs (A.Run task) status = number_of status ≤ 1
 EndsAs A.Help status = number_of status ≤ 1
 EndsAs A.Misused status = number_of status ≡ 2
+
+-- where a program is run: as what the run answered says
+abbrev pub AnswersAs : {T E : Type 0} → (T → Result (Unit {0}) E → Type 0) → Asked T → Status → Type 0
+AnswersAs {E = E} answer (A.Run task) status = (end : Result (Unit {0}) E) × answer task end × (status ≡ status_of end)
+AnswersAs answer A.Help status = Unit {0}
+AnswersAs answer A.Misused status = Unit {0}

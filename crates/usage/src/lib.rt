@@ -3,7 +3,7 @@
 #![tactic(auto)]
 
 ghost use Rattle.std.specs.Prelude.{◌≡◌, ◌≤◌, length};
-ghost use Rattle.usage.specs.Statuses.{IsStatusOf, status_of, EndsAs};
+ghost use Rattle.usage.specs.Statuses.{IsStatusOf, status_of, EndsAs, AnswersAs};
 
 use failures::{Failed, put_out};
 use std::env::FillError;
@@ -92,7 +92,8 @@ pub fn serve<T, E: Drop, F: FnOnce(T) -> Result<(), E>>(
     run: F,
 ) -> Status
     requires { F.IsAlwaysCallable run }
-    ensures { EndsAs asked result }
+    ensures ends { EndsAs asked result }
+    ensures answers { AnswersAs (F.post run) asked result }
 {
     match asked {
         Asked::Run(task) => run(task).into(),

@@ -10,7 +10,6 @@ use cuts::up_to_last;
 use failures::{Failed, say_failed};
 use lent::put_slice;
 use numerals::{put_ended, put_number};
-use refusals::Refusal;
 use std::fs::{File, OpenFile};
 use std::io::ErrorKind;
 use std::process::Process;
@@ -31,8 +30,8 @@ const TRIES: u64 = 100;
 #[derive(Drop)]
 pub struct Begun<'n, 't, F> {
     pub file: F,
-    name: &'n str,
-    target: &'t str,
+    pub name: &'n [u8],
+    pub target: &'t str,
 }
 
 // Writes the name for a target at the start of lent bytes.
@@ -68,8 +67,15 @@ fn open_folder<R: Files>(rt: &R, folder: &[u8]) -> io::Result<R::File> {
 }
 
 // Takes a name away. Whether it can be changes nothing.
-fn remove(rt: &impl Files, name: &str) {
-    let _ = fs::remove_file(rt, name);
+fn remove(rt: &impl Files, name: &[u8]) {
+    if let Ok(path) = text_of(name) {
+        let _ = fs::remove_file(rt, path);
+    }
+}
+
+// Gives what stands under a name its target's.
+fn rename(rt: &impl Files, name: &[u8], target: &str) -> io::Result<()> {
+    fs::rename(rt, text_of(name)?, target)
 }
 
 // Whether a file could not be made since its name is another's, by what making it answered.
@@ -86,7 +92,7 @@ fn attempt_at<R: Files>(
     attempt: u64,
 ) -> io::Result<(R::File, usize)>
     requires { (length target.now ≤ longest_path) × (name_room ≤ length name.old) }
-    ensures { IfOk result (λ made. made.1 ≤ length name.new) }
+    ensures { (length name.new ≡ length name.old) × IfOk result (λ made. made.1 ≤ length name.new) }
 {
     let n = put_name(name, target, process, attempt);
     let file = create(rt, &name[..n])?;
@@ -101,6 +107,7 @@ pub fn begin<'n, 't, R: Files>(
     name: &'n mut [u8],
 ) -> io::Result<Begun<'n, 't, R::File>>
     requires { (length target.now ≤ longest_path) × (name_room ≤ length name.old) }
+    ensures { IfOk result (λ begun. length begun.name.now ≤ length name.old) }
 {
     let number = u64::from(process::id(process));
     let mut made = attempt_at(rt, target.as_bytes(), name, number, 0);
@@ -113,7 +120,7 @@ pub fn begin<'n, 't, R: Files>(
     let (file, n) = made?;
     Ok(Begun {
         file,
-        name: text_of(&name[..n])?,
+        name: &name[..n],
         target,
     })
 }
@@ -147,7 +154,7 @@ impl<F: OpenFile + Drop> Begun<'_, '_, F> {
             return Err(failed);
         }
         drop(self.file);
-        if let Err(error) = fs::rename(rt, self.name, self.target) {
+        if let Err(error) = rename(rt, self.name, self.target) {
             let failed = say_failed(rt, self.target, error);
             remove(rt, self.name);
             return Err(failed);
@@ -158,6 +165,6 @@ impl<F: OpenFile + Drop> Begun<'_, '_, F> {
 }
 
 // Says a refusal's number on standard error, as the line "no N".
-pub fn say_no(rt: &impl Eprint, refusal: Refusal) {
-    let _ = eprintln!(rt; "no {refusal}");
+pub fn say_no(rt: &impl Eprint, n: u32) {
+    let _ = eprintln!(rt; "no {n}");
 }
