@@ -1,6 +1,6 @@
 -- What each answer for a spectrum leaves in the lent numbers. Assumes nothing.
 use Prim.Native.Nat.{ℕ, ◌*◌, ◌≤◌, ◌<◌}
-use mathlib.Core.Path.{◌≡◌, ap}
+use mathlib.Core.Path.{◌≡◌, sym, ap, ◌∙◌}
 use mathlib.Core.List.{List}
 use native.Mathlib.Omega.{arith}
 use lib.ListN.{length, take}
@@ -12,7 +12,8 @@ use Rattle.refusals.specs.declared.Refusal.TheVariants as No
 use Rattle.request.specs.declared.Request.{Request}
 use Rattle.tables.specs.Tables.{measures}
 use Rattle.prediction.specs.declared.floats.FloatRow.{FloatRow}
-use Rattle.prediction.specs.Floats.{float_spectrum_of}
+use Rattle.prediction.specs.Spectra.{figures_as}
+use Rattle.prediction.specs.Floats.{float_spectrum_of, float_figures_in}
 use Rattle.prediction.proofs.FloatLaws.{float-length}
 use Rattle.lent.specs.Lent.{LentWritten}
 use Rattle.records.specs.Records.{record_size, record_in}
@@ -56,5 +57,11 @@ module _ {s : Result (List FloatRow) Fault} (b : List Float) where
 
 -- ---- what stands where
 -- all rows have six numbers
-pub numbers_all : (r : Request) (rows : List FloatRow) → float_spectrum_of r ≡ Ok rows → length (numbers_of rows) ≡ 6 * measures
-numbers_all r rows e = omega (arith, length_numbers rows, float-length r rows e)
+pub numbers_all : (r : Request) → length (numbers_of (float_figures_in (float_spectrum_of r))) ≡ 6 * measures
+numbers_all r = omega (arith, length_numbers (float_figures_in (float_spectrum_of r)), float-length r)
+
+-- of an answer, those that are laid
+pub answer_numbers : (r : Request) (rows : List FloatRow) → float_spectrum_of r ≡ Ok rows → length (numbers_of rows) ≡ 6 * measures
+unfolding figures_as
+answer_numbers r rows e =
+    ap (λ (a : Result (List FloatRow) Refusal). length (numbers_of (float_figures_in a))) (sym e) ∙ numbers_all r

@@ -4,7 +4,7 @@
 #![tactic(auto)]
 
 ghost use Rattle.std.specs.Prelude.{◌≡◌, ℕ, ◌<◌, length, get_or};
-ghost use Rattle.tables.specs.Tables.{measures};
+ghost use Rattle.tables.specs.Tables.{measures, PGA};
 ghost use Rattle.model.specs.Accuracy.{InRange};
 ghost use Rattle.model.specs.Fixed.{rock_pga_fixed, ln_median_at_fixed, own_fixed, fine_fixed, no_fine};
 
@@ -68,6 +68,16 @@ pub fn fine_at(i: usize, x: Scenario) -> Fine
     not_below_pga(i, own, own_at(&pga, &rock))
 }
 
+// The fine row of the next measure, which is then the one at hand, from PGA's own. One function for the
+// measures on both sides of PGA, so that no test for PGA stands before a row of Table 2 is read.
+fn next_row(m: &mut OnSoil, k: usize, rock: &Rock, pga: Fine) -> Fine
+    requires { (k < measures) × (rock.now.pga ≡ rock_pga_fixed m.old.measure.f.now.x) × (pga ≡ own_fixed PGA m.old.measure.f.now.x) }
+    ensures { (result ≡ fine_fixed k m.old.measure.f.now.x) × (m.new.measure.f.now.x ≡ m.old.measure.f.now.x) }
+{
+    *m = m.next(k, rock);
+    not_below_pga(k, own_of(m), pga)
+}
+
 // The fine rows of all measures. PGA's comes first, likewise; from there on measures that are alike in c6
 // or k1 follow one another.
 pub fn fine_rows_of(x: Scenario) -> [Fine; MEASURES]
@@ -80,11 +90,11 @@ pub fn fine_rows_of(x: Scenario) -> [Fine; MEASURES]
     let mut m = OnSoil::of(first, &rock);
     let pga = own_of(&m);
     let mut rows = [pga; MEASURES];
-    for k in 0..MEASURES {
-        if k != PGA {
-            m = m.next(k, &rock);
-            rows[k] = not_below_pga(k, own_of(&m), pga);
-        }
+    for k in 0..PGA {
+        rows[k] = next_row(&mut m, k, &rock, pga);
+    }
+    for k in PGA + 1..MEASURES {
+        rows[k] = next_row(&mut m, k, &rock, pga);
     }
     rows
 }

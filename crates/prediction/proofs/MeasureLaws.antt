@@ -29,7 +29,7 @@ use Rattle.prediction.specs.Measures.{shown_value, measure_for, measure_of, Tell
 use Rattle.prediction.specs.Sizes.{ShownSmall}
 use Rattle.prediction.proofs.Completed.{accepted, in_range}
 use Rattle.prediction.proofs.RowLaws.{row_is, spectrum_done, by_completion, fixed_small}
-use Rattle.prediction.proofs.DemandThree.{accepted-rows, rows-small, shown_near, shown_small}
+use Rattle.prediction.proofs.DemandThree.{accepted-rows, rows_in-small, shown_near, shown_small}
 use Rattle.prediction.proofs.FloatLaws.{float_is}
 
 -- ---- the cases
@@ -62,7 +62,7 @@ pub measure_whole :
 unfolding shown_value
 measure_whole r c k e h =
     let row = get_or (rows_in (spectrum_of r)) k no_row in
-    let n = shown_small row (rows-small r k h) in
+    let n = shown_small row (rows_in-small r k h) in
     rw (measure_row r c k e h)
     (told (float_is (pos (shown_of row).median) (omega (arith, n.median))) (float_is (pos (shown_of row).sigma) (omega (arith, n.sigma))))
 

@@ -27,7 +27,7 @@ use Rattle.model.specs.Accuracy.{InRange}
 use Rattle.model.specs.Equations.{most}
 use Rattle.model.proofs.Demand.{fine_in_range}
 use Rattle.model.proofs.Sizes.{ln_size, sigma_size}
-use Rattle.prediction.specs.Spectra.{scenario_of, rows_from, rows_of, map_ok, spectrum_for, spectrum_of, spectrum_as}
+use Rattle.prediction.specs.Spectra.{scenario_of, rows_from, rows_of, map_ok, spectrum_for, spectrum_of, spectrum_as, figures_as, figures_in}
 use Rattle.prediction.specs.Sizes.{Small}
 
 -- ---- the rows
@@ -115,6 +115,15 @@ module _ {A : Type 0} (tell : Row → A) (r : Request) where
           → (rows : List Row) × (spectrum_of r ≡ Ok rows) × (told ≡ map tell rows)
       go (Ok rows) e s = (rows, e, cc)
       go (Err n) e s = absurd cc
+
+  -- as figures, of which zeros are told beside a refusal
+  pub told_figures : figures_as tell (spectrum_as tell r) ≡ map tell (figures_in (spectrum_of r))
+  unfolding spectrum_as figures_as
+  told_figures = go (spectrum_of r)
+    where
+      go : (a : Result (List Row) Refusal) → figures_as tell (map_ok (λ rows. map tell rows) a) ≡ map tell (figures_in a)
+      go (Ok rows) = refl
+      go (Err n) = refl
 
 -- the rows themselves
 pub told_whole : (r : Request) → spectrum_as (λ w. w) r ≡ spectrum_of r

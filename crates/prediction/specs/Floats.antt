@@ -7,7 +7,7 @@ use Rattle.refusals.specs.declared.Refusal.{Refusal}
 use Rattle.request.specs.declared.Request.{Request}
 use Rattle.model.specs.declared.Row.{Row}
 use Rattle.prediction.specs.declared.floats.FloatRow.{FloatRow}
-use Rattle.prediction.specs.Spectra.{spectrum_as}
+use Rattle.prediction.specs.Spectra.{spectrum_as, figures_as}
 
 -- the float is finite, and is the whole number: nothing is lost
 abbrev pub Is : Float → ℤ → Type 0
@@ -45,3 +45,7 @@ no_floats = record { ln = nan; median = nan; intra = nan; inter = nan; total = n
 unfoldable pub float_spectrum_of : Request → Result (List FloatRow) Refusal
 unfolding spectrum_as floats_of
 float_spectrum_of r = spectrum_as floats_of r
+
+-- in document 01's terms: 24 rows, of zeros beside a refusal
+abbrev pub float_figures_in : Result (List FloatRow) Refusal → List FloatRow
+float_figures_in s = figures_as floats_of s

@@ -66,7 +66,16 @@ abbrev pub rows_in : {A : Type 0} → Result (List A) Refusal → List A
 rows_in (Ok rows) = rows
 rows_in (Err n) = []
 
--- in document 01's terms: 24 rows, of zeros beside a refusal
-unfoldable pub figures_in : Result (List Row) Refusal → List Row
-figures_in (Ok rows) = rows
-figures_in (Err n) = replicate measures no_row
+-- ---- in document 01's terms: 24 rows, of zeros beside a refusal
+-- as they are told
+unfoldable pub figures_as : {A : Type 0} → (Row → A) → Result (List A) Refusal → List A
+figures_as tell (Ok rows) = rows
+figures_as tell (Err n) = replicate measures (tell no_row)
+
+-- those of a spectrum
+abbrev pub figures_in : Result (List Row) Refusal → List Row
+figures_in s = figures_as (λ row. row) s
+
+-- those that a sheet shows of it
+abbrev pub shown_figures_in : Result (List Shown) Refusal → List Shown
+shown_figures_in s = figures_as shown_of s

@@ -5,3 +5,6 @@ use Rattle.measures.proofs.fine_rows_of.Given as goal
 
 abbrev pub invariant-loop-k : goal.invariant-loop-k
 invariant-loop-k l = record { filled : Filled l.fn.x l.rows l.k; same : l.m.measure.f.now.x ≡ l.fn.x }
+
+abbrev pub invariant-loop-k-2 : goal.invariant-loop-k-2
+invariant-loop-k-2 l = record { filled : Filled l.fn.x l.rows l.k; same : l.m.measure.f.now.x ≡ l.fn.x }

@@ -5,7 +5,7 @@ use Rattle.kept.specs.declared.faults.Fault.TheVariants.{Refused}
 use Rattle.kept.specs.Faults.{or_fault}
 use Rattle.lent.proofs.WroteLaws.{refuses, writes}
 use Rattle.export.specs.Given.{numbers_of}
-use Rattle.export.proofs.SpectrumLaws.{of_malformed, of_request, spectrum_refused, spectrum_wrote, numbers_all}
+use Rattle.export.proofs.SpectrumLaws.{of_malformed, of_request, spectrum_refused, spectrum_wrote, answer_numbers}
 use Rattle.export.proofs.spectrum.spectrum_or.Goals as goal
 
 pub returns-in_err-request : goal.returns-in_err-request
@@ -27,15 +27,15 @@ pub returns-then-rows-lt-NUMBERS : goal.returns-then-rows-lt-NUMBERS
 returns-then-rows-lt-NUMBERS c =
     spectrum_wrote c.args.rows.now (of_request c.args.malformed c.in_ok-request.ensures.ok_part ∙ sym (ap or_fault c.in_ok-made.ensures))
     (refuses c.args.rows.now (numbers_of c.in_ok-made.made)
-    (omega (arith, numbers_all c.in_ok-request.request c.in_ok-made.made (sym c.in_ok-made.ensures), c.if-rows-lt-NUMBERS.true)))
+    (omega (arith, answer_numbers c.in_ok-request.request c.in_ok-made.made (sym c.in_ok-made.ensures), c.if-rows-lt-NUMBERS.true)))
 
 pub put_rows-requires : goal.put_rows-requires
 put_rows-requires c =
-    omega (arith, numbers_all c.in_ok-request.request c.in_ok-made.made (sym c.in_ok-made.ensures), c.if-rows-lt-NUMBERS.false)
+    omega (arith, answer_numbers c.in_ok-request.request c.in_ok-made.made (sym c.in_ok-made.ensures), c.if-rows-lt-NUMBERS.false)
 
 pub returns : goal.returns
 returns c =
     spectrum_wrote c.args.rows.now (of_request c.args.malformed c.in_ok-request.ensures.ok_part ∙ sym (ap or_fault c.in_ok-made.ensures))
     (writes
-    (omega (arith, numbers_all c.in_ok-request.request c.in_ok-made.made (sym c.in_ok-made.ensures), c.if-rows-lt-NUMBERS.false))
+    (omega (arith, answer_numbers c.in_ok-request.request c.in_ok-made.made (sym c.in_ok-made.ensures), c.if-rows-lt-NUMBERS.false))
     c.put_rows.ensures)
