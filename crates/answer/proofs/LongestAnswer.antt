@@ -23,7 +23,7 @@ use Rattle.model.specs.declared.Shown.{Shown}
 use Rattle.model.specs.Rows.{shown_of, no_shown}
 use Rattle.between.specs.Periods.{covered}
 use Rattle.between.specs.Fixed.{row_at}
-use Rattle.prediction.specs.Spectra.{scenario_of, shown_spectrum_of, rows_in}
+use Rattle.prediction.specs.Spectra.{scenario_of, shown_spectrum_of, figures_as, shown_figures_in}
 use Rattle.prediction.specs.Sizes.{ShownSmall}
 use Rattle.prediction.proofs.DemandThree.{shown_small, shown_rows_small}
 use Rattle.prediction.proofs.RowLaws.{by_completion}
@@ -41,7 +41,7 @@ use Rattle.answer.proofs.RowLaws.{length_row}
 
 -- ---- the lines
 no_short : (n : Refusal) → length (no_line n) ≤ longest_line
-no_short n = omega (arith, length_no n, length-render 1 (number_of n) (omega (arith, number-most n)))
+no_short n = omega (arith, length_no (number_of n), length-render 1 (number_of n) (omega (arith, number-most n)))
 
 ok_short : (r : Request) → refusal r ≡ None → length (ok_line (completed r)) ≤ longest_line
 unfolding completed
@@ -58,11 +58,11 @@ ok_short r e =
       length-render 4 (size_of (completed r).z25) (omega (arith, (site_rows_lem r e).3)),
     )
 
-completion_short : (r : Request) → length (completion_line (completion_of r)) ≤ longest_line
+completion_short : (r : Request) → length (completion_line number_of (completion_of r)) ≤ longest_line
 unfolding completion_line completion_of
 completion_short r = go (refusal r) refl
   where
-    go : (o : Option Refusal) → refusal r ≡ o → length (completion_line (unless o (completed r))) ≤ longest_line
+    go : (o : Option Refusal) → refusal r ≡ o → length (completion_line number_of (unless o (completed r))) ≤ longest_line
     go None e = ok_short r e
     go (Some n) e = no_short n
 
@@ -92,17 +92,17 @@ rows_short rows b (suc n) h =
       row_short n (get_or rows n no_shown) (omega arith) (b n (omega arith)),
     )
 
-spectrum_short : (r : Request) → length (spectrum_lines (shown_spectrum_of r)) ≤ longest_answer S.Prediction
-unfolding spectrum_lines
+spectrum_short : (r : Request) → length (spectrum_lines number_of (shown_spectrum_of r)) ≤ longest_answer S.Prediction
+unfolding spectrum_lines figures_as
 spectrum_short r = go (shown_spectrum_of r) (shown_rows_small r)
   where
     go :
-        (a : Result (List Shown) Refusal) → ((k : ℕ) → k < measures → ShownSmall (get_or (rows_in a) k no_shown))
-        → length (spectrum_lines a) ≤ longest_answer S.Prediction
+        (a : Result (List Shown) Refusal) → ((k : ℕ) → k < measures → ShownSmall (get_or (shown_figures_in a) k no_shown))
+        → length (spectrum_lines number_of a) ≤ longest_answer S.Prediction
     go (Ok rows) small = rows_short rows small measures (omega arith)
     go (Err n) small = omega (arith, no_short n)
 
-period_short : (r : Request) (t : ℕ) → length (period_line t (period_of r t)) ≤ longest_period
+period_short : (r : Request) (t : ℕ) → length (period_line number_of t (period_of r t)) ≤ longest_period
 unfolding period_line
 period_short r t =
     by_completion r (λ c e. by_test c e (covered t) refl) (λ n e. rw (period_refused r n t e) (no_shorter n))
@@ -110,7 +110,7 @@ period_short r t =
     no_shorter : (n : Refusal) → length (no_line n) ≤ longest_period
     no_shorter n = omega (arith, no_short n)
 
-    by_test : (c : Request) → completion_of r ≡ Ok c → (b : Bool) → covered t ≡ b → length (period_line t (period_of r t)) ≤ longest_period
+    by_test : (c : Request) → completion_of r ≡ Ok c → (b : Bool) → covered t ≡ b → length (period_line number_of t (period_of r t)) ≤ longest_period
     by_test c e true h =
         let v = period_row r c t e h in
         rw v

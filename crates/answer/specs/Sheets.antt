@@ -1,13 +1,14 @@
 -- From a line to its answer, by the sheet that is asked for. Definitions only.
 use Rattle.std.specs.Prelude.{ℕ, ◌*◌, List, Option, Some, None}
 use Rattle.refusals.specs.declared.Refusal.TheVariants as No
+use Rattle.refusals.specs.Order.{number_of}
 use Rattle.request.specs.declared.Request.{Request}
 use Rattle.outcome.specs.Answers.{completion_of}
 use Rattle.tables.specs.Tables.{measures}
 use Rattle.prediction.specs.Spectra.{shown_spectrum_of}
 use Rattle.one_period.specs.OnePeriods.{period_of}
 use Rattle.text.specs.Grammar.{line_of}
-use Rattle.lines.specs.Lines.{no_line, completion_line}
+use Rattle.lines.specs.Lines.{number_line, no_line, completion_line}
 use Rattle.answer.specs.declared.Sheet.{Sheet}
 use Rattle.answer.specs.declared.Sheet.TheVariants as S
 use Rattle.answer.specs.RowLines.{spectrum_lines, period_line}
@@ -15,13 +16,13 @@ use Rattle.answer.specs.RowLines.{spectrum_lines, period_line}
 -- the answer to a request
 unfoldable pub sheet_of : Sheet → Request → List ℕ
 unfolding completion_line completion_of spectrum_lines period_line
-sheet_of S.Completion r = completion_line (completion_of r)
-sheet_of S.Prediction r = spectrum_lines (shown_spectrum_of r)
-sheet_of (S.Period t) r = period_line t (period_of r t)
+sheet_of S.Completion r = completion_line number_of (completion_of r)
+sheet_of S.Prediction r = spectrum_lines number_of (shown_spectrum_of r)
+sheet_of (S.Period t) r = period_line number_of t (period_of r t)
 
 -- a malformed line is refused
 unfoldable pub reply_of : Sheet → Option Request → List ℕ
-unfolding sheet_of no_line
+unfolding sheet_of number_line
 reply_of sheet (Some r) = sheet_of sheet r
 reply_of sheet None = no_line No.Malformed
 

@@ -6,7 +6,7 @@ ghost use Rattle.lent.specs.Lent.{LentWritten};
 ghost use Rattle.answer.specs.RowLines.{row_line, period_line};
 
 use crate::rows::{put_row, row_length};
-use lines::{room, write_no};
+use lines::{Numbered, room, write_no};
 use model::{Row, Shown};
 use refusals::Refusal;
 
@@ -33,12 +33,12 @@ fn write_row(out: &mut [u8], n: u64, shown: Shown) -> Result<usize, Refusal>
 // The line of a period, or that of its refusal. Its only refusal is TooLong, and then no byte of `out`
 // has changed.
 #[tactic(auto, unfolding(crate::specs::RowLines::period_line))]
-pub fn write_period(
+pub fn write_period<N: Numbered>(
     out: &mut [u8],
     period: u64,
-    answer: Result<Row, Refusal>,
+    answer: Result<Row, N>,
 ) -> Result<usize, Refusal>
-    ensures { LentWritten out.old (period_line period answer) result out.new }
+    ensures { LentWritten out.old (period_line N.number period answer) result out.new }
 {
     match answer {
         Ok(row) => write_row(out, period, shown_of(row)),

@@ -6,7 +6,7 @@ ghost use Rattle.lent.specs.Lent.{Written, LentWritten};
 ghost use Rattle.answer.specs.RowLines.{row_line, row_lines, spectrum_lines};
 
 use lent::put_byte;
-use lines::{room, write_no};
+use lines::{Numbered, room, write_no};
 use model::Shown;
 use numerals::{digits, put_ended, put_signed, width};
 use refusals::Refusal;
@@ -56,11 +56,11 @@ fn rows_length(rows: [Shown; MEASURES]) -> usize
 
 // The lines of a spectrum, or the line of its refusal. Its only refusal is TooLong, and then no
 // byte of `out` has changed.
-pub fn write_spectrum(
+pub fn write_spectrum<N: Numbered>(
     out: &mut [u8],
-    answer: Result<[Shown; MEASURES], Refusal>,
+    answer: Result<[Shown; MEASURES], N>,
 ) -> Result<usize, Refusal>
-    ensures { LentWritten out.old (spectrum_lines answer) result out.new }
+    ensures { LentWritten out.old (spectrum_lines N.number answer) result out.new }
 {
     let rows = match answer {
         Ok(rows) => rows,

@@ -7,8 +7,6 @@ use native.Mathlib.Numerals.{add-one}
 use lib.IntN.{pos}
 use lib.ListN.{length, get_or, drop, length-append, drop_of_length-le}
 use lib.Seq.{drop-cons}
-use Rattle.refusals.specs.declared.Refusal.{Refusal}
-use Rattle.refusals.specs.Order.{number_of}
 use Rattle.request.specs.declared.Field.{Field}
 use Rattle.request.specs.declared.Field.TheVariants.{Measured}
 use Rattle.request.specs.declared.Request.{Request}
@@ -16,7 +14,7 @@ use Rattle.request.specs.Fields.{size_of}
 use Rattle.lent.proofs.LeftLaws.{Left}
 use Rattle.numerals.specs.Render.{lf, space, ascii, render}
 use Rattle.numerals.proofs.RenderLaws.{length-ended}
-use Rattle.lines.specs.Lines.{letter_of, spaced, columns, letters, ok_line, no_line}
+use Rattle.lines.specs.Lines.{letter_of, spaced, columns, letters, ok_line, number_line}
 
 pub length_spaced : (f : Field) → length (spaced f) ≡ length (render (size_of f)) + 1
 unfolding spaced
@@ -98,6 +96,6 @@ length_ok c =
       length_spaced c.z25,
     ))
 
-pub length_no : (n : Refusal) → length (no_line n) ≡ length (render (number_of n)) + 4
-unfolding no_line ascii
-length_no n = simp length-append (omega (arith, length-ended (number_of n) lf))
+pub length_no : (n : ℕ) → length (number_line n) ≡ length (render n) + 4
+unfolding number_line ascii
+length_no n = simp length-append (omega (arith, length-ended n lf))

@@ -12,7 +12,7 @@ use lib.IntN.{ℤ, pos, negsuc, nat_abs}
 use lib.Signed.{le_z}
 use Rattle.std.specs.Prelude.{Result, Ok, Err, None, Some, unwrap_or}
 use Rattle.refusals.specs.declared.Refusal.{Refusal}
-use Rattle.refusals.specs.Order.{number_of}
+use Rattle.refusals.specs.Order as Order
 use Rattle.request.specs.declared.Field.{Field}
 use Rattle.request.specs.declared.Field.TheVariants.{Measured, Inferred, Estimated, Blank}
 use Rattle.request.specs.declared.Request.{Request}
@@ -28,7 +28,7 @@ use Rattle.lent.proofs.WroteLaws.{to_fits, after-fits}
 use Rattle.numerals.specs.Render.{lf, space, ascii, render, ended}
 use Rattle.text.specs.Grammar.{space_at, digits_of}
 use Rattle.text.proofs.RoundTrip.{digits_back, space-past, number_no_space}
-use Rattle.lines.specs.Lines.{letter_of, spaced, letters, ok_line, no_line, completion_line}
+use Rattle.lines.specs.Lines.{letter_of, spaced, letters, ok_line, number_line, completion_line}
 use Rattle.lines.specs.ReadBack.{figures, number, told, report_of, plain, number_in, behind, figure_in, figures_in, read_back}
 
 -- ---- a figure and what stands behind it
@@ -103,18 +103,19 @@ ok_back c =
     ∙ five c.dip c.w c.ztor c.rrup c.z25 (letters c)
     ∙ rw (figure-back c.dip, figure-back c.w, figure-back c.ztor, figure-back c.rrup, figure-back c.z25)
 
-no_back : (n : Refusal) → read_back (no_line n) ≡ number (number_of n)
-unfolding read_back no_line ended
+no_back : (n : ℕ) → read_back (number_line n) ≡ number n
+unfolding read_back number_line ended
 no_back n =
-    let digits = render (number_of n) in
+    let digits = render n in
     ap (λ (s : List ℕ). number (plain s))
     (take_at digits (lf ∷ []) (length (digits ++ (lf ∷ [])) - 1) (omega (arith, length-append digits (lf ∷ []))))
-    ∙ rw (digits_back (number_of n))
+    ∙ rw (digits_back n)
 
-pub line-back : (a : Result Request Refusal) → read_back (completion_line a) ≡ report_of a
+-- whatever stands in a completion's place, and any number of it
+pub line-back : {E : Type 0} (number_of : E → ℕ) (a : Result Request E) → read_back (completion_line number_of a) ≡ report_of number_of a
 unfolding completion_line report_of
-line-back (Ok c) = ok_back c
-line-back (Err n) = no_back n
+line-back number_of (Ok c) = ok_back c
+line-back number_of (Err n) = no_back (number_of n)
 
 -- ---- of an accepted request, whose figures are not negative, the line tells the figures themselves
 told_number : (v : ℤ) (a : ℕ) → le_z (pos a) v ≡ true → pos (nat_abs v) ≡ v
@@ -159,21 +160,22 @@ five-alike p q s t u = rw (p, q, s, t, u)
 
 pub accepted-told :
     (r : Request) → completion_of r ≡ Ok (completed r)
-    → read_back (completion_line (completion_of r)) ≡ figures (dip r) (width r) (ztor r) (rrup r) (z25 r)
+    → read_back (completion_line Order.number_of (completion_of r)) ≡ figures (dip r) (width r) (ztor r) (rrup r) (z25 r)
 unfolding report_of completed
 accepted-told r e =
     let h = accepted-refusal r e in
-    ap (λ (a : Result Request Refusal). read_back (completion_line a)) e
-    ∙ line-back (Ok (completed r))
+    ap (λ (a : Result Request Refusal). read_back (completion_line Order.number_of a)) e
+    ∙ line-back Order.number_of (Ok (completed r))
     ∙ five-alike (told-dip r h) (told-width r h) (told-ztor r h) (told-rrup r h) (told-z25 r h)
 
 -- what a writer left in the lent bytes, read back from them
 pub written_back :
-    (a : Result Request Refusal) {b b₁ : List ℕ} (n : ℕ) → LentWritten b (completion_line a) (Ok n) b₁ → read_back (take n b₁) ≡ report_of a
-written_back a {b} {b₁} n w =
-    let s = completion_line a in
+    {E : Type 0} (number_of : E → ℕ) (a : Result Request E) {b b₁ : List ℕ} (n : ℕ) → LentWritten b (completion_line number_of a) (Ok n) b₁
+    → read_back (take n b₁) ≡ report_of number_of a
+written_back number_of a {b} {b₁} n w =
+    let s = completion_line number_of a in
     let f = to_fits (length b) s n w.answer in
     ap (λ (l : List ℕ). read_back (take n l)) (w.became ∙ after-fits b s f.0)
     ∙ ap (λ (k : ℕ). read_back (take k (put b 0 s))) f.1
     ∙ ap read_back (read-put b 0 s (omega (arith, f.0)))
-    ∙ line-back a
+    ∙ line-back number_of a

@@ -49,12 +49,17 @@ unfoldable pub ok_line : Request → List ℕ
 unfolding ascii spaced letters
 ok_line c = ascii "ok " ++ spaced c.dip ++ spaced c.w ++ spaced c.ztor ++ spaced c.rrup ++ spaced c.z25 ++ letters c
 
--- "no" and the refusal's number
-unfoldable pub no_line : Refusal → List ℕ
+-- "no" and a number
+unfoldable pub number_line : ℕ → List ℕ
 unfolding ascii ended
-no_line n = ascii "no " ++ ended (number_of n) lf
+number_line n = ascii "no " ++ ended n lf
 
-unfoldable pub completion_line : Result Request Refusal → List ℕ
-unfolding ok_line no_line
-completion_line (Ok c) = ok_line c
-completion_line (Err n) = no_line n
+-- "no" and the refusal's number
+abbrev pub no_line : Refusal → List ℕ
+no_line n = number_line (number_of n)
+
+-- of a completion, or of what there is in its place, by its number
+unfoldable pub completion_line : {E : Type 0} → (E → ℕ) → Result Request E → List ℕ
+unfolding ok_line number_line
+completion_line number (Ok c) = ok_line c
+completion_line number (Err n) = number_line (number n)

@@ -1,7 +1,5 @@
 -- An answer line read back: the five figures with their letters, or the refusal's number. Definitions only.
 use Rattle.std.specs.Prelude.{ℕ, ◌+◌, ◌-◌, cond, List, eqb, length, get_or, take, drop, pos, unwrap_or, Result, Ok, Err}
-use Rattle.refusals.specs.declared.Refusal.{Refusal}
-use Rattle.refusals.specs.Order.{number_of}
 use Rattle.request.specs.declared.Field.{Field}
 use Rattle.request.specs.declared.Field.TheVariants.{Measured, Inferred, Estimated, Blank}
 use Rattle.request.specs.declared.Request.{Request}
@@ -23,10 +21,10 @@ told (Estimated v) = Estimated (pos (size_of (Estimated v)))
 told Blank = Blank
 
 -- what an answer says that a line tells
-unfoldable pub report_of : Result Request Refusal → Report
+unfoldable pub report_of : {E : Type 0} → (E → ℕ) → Result Request E → Report
 unfolding told
-report_of (Ok c) = figures (told c.dip) (told c.w) (told c.ztor) (told c.rrup) (told c.z25)
-report_of (Err n) = number (number_of n)
+report_of number_of (Ok c) = figures (told c.dip) (told c.w) (told c.ztor) (told c.rrup) (told c.z25)
+report_of number_of (Err n) = number (number_of n)
 
 -- the number that digits stand for, 0 where a byte is no digit
 abbrev pub plain : List ℕ → ℕ

@@ -3,8 +3,9 @@
 ghost use Rattle.std.specs.Prelude.{◌≡◌, ◌+◌, ◌<◌, ◌≤◌, length, Result, MatchResult};
 ghost use Rattle.refusals.specs.declared.Refusal.TheVariants as No;
 ghost use Rattle.lent.specs.Lent.{Written, LentWritten};
-ghost use Rattle.lines.specs.Lines.{letter_of, columns, letters, spaced, ok_line, no_line};
+ghost use Rattle.lines.specs.Lines.{letter_of, columns, letters, spaced, ok_line, number_line};
 
+use crate::numbered::Numbered;
 use lent::{put_byte, put_slice};
 use numerals::{digits, put_ended};
 use refusals::Refusal;
@@ -91,19 +92,20 @@ pub fn write_ok(out: &mut [u8], c: Request) -> Result<usize, Refusal>
     Ok(put_ok(out, c))
 }
 
-// The line of a refusal, for which there is room.
-fn put_no(out: &mut [u8], refusal: Refusal) -> usize
-    requires { length (no_line refusal) ≤ length out.old }
-    ensures { Written out.old 0 (no_line refusal) result out.new }
+// The line of a number, for which there is room.
+fn put_no(out: &mut [u8], n: u32) -> usize
+    requires { length (number_line n) ≤ length out.old }
+    ensures { Written out.old 0 (number_line n) result out.new }
 {
     let at = put_slice(out, 0, b"no ");
-    put_ended(out, at, u32::from(refusal) as u64, b'\n')
+    put_ended(out, at, n as u64, b'\n')
 }
 
-// The line of a refusal, or TooLong.
-pub fn write_no(out: &mut [u8], refusal: Refusal) -> Result<usize, Refusal>
-    ensures { LentWritten out.old (no_line refusal) result out.new }
+// The line of a refusal or a number, or TooLong.
+pub fn write_no<N: Numbered>(out: &mut [u8], refusal: N) -> Result<usize, Refusal>
+    ensures { LentWritten out.old (number_line (N.number refusal)) result out.new }
 {
-    room(out.len(), digits(u32::from(refusal) as u64) + 4)?;
-    Ok(put_no(out, refusal))
+    let n = refusal.number();
+    room(out.len(), digits(n as u64) + 4)?;
+    Ok(put_no(out, n))
 }

@@ -2,13 +2,13 @@
 use Rattle.std.specs.Prelude.{ℕ, cond, List, [], ◌∷◌, ◌++◌, eqb, length}
 use Rattle.refusals.specs.declared.Refusal.TheVariants as No
 use Rattle.numerals.specs.Render.{lf}
-use Rattle.lines.specs.Lines.{no_line}
+use Rattle.lines.specs.Lines.{number_line, no_line}
 use Rattle.answer.specs.declared.Sheet.{Sheet}
 use Rattle.answer.specs.Sheets.{answer_to}
 
 -- the answer to a last line without an LF: none if it has no byte
 unfoldable pub ending : List ℕ → List ℕ
-unfolding no_line
+unfolding number_line
 ending line = cond (eqb (length line) 0) [] (no_line No.Malformed)
 
 -- the answers to the bytes that follow the start of a line

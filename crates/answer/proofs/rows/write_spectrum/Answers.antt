@@ -8,15 +8,15 @@ use Rattle.answer.proofs.rows.write_spectrum.Goals as goal
 
 pub returns-in-Err : goal.returns-in-Err
 unfolding spectrum_lines
-returns-in-Err c = rw c.in-Err.is c.write_no.ensures
+returns-in-Err g c = rw c.in-Err.is c.write_no.ensures
 
 pub returns-in_err-room : goal.returns-in_err-room
 unfolding spectrum_lines
-returns-in_err-room c =
+returns-in_err-room g c =
     let p = err_from_is_err_and c.from_residual.result c.from_residual.ensures.1 in
     let full = c.in_err-room.ensures in
     rw (c.in-Ok.is, p.1, p.2, full.0) (refuses c.args.out.now (row_lines measures c.in-Ok.rows) (omega arith))
 
 pub returns : goal.returns
 unfolding spectrum_lines
-returns c = let fits = c.in_ok-room.ensures in rw c.in-Ok.is (writes (omega arith) c.put_rows.ensures)
+returns g c = let fits = c.in_ok-room.ensures in rw c.in-Ok.is (writes (omega arith) c.put_rows.ensures)
