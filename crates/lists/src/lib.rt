@@ -43,9 +43,10 @@ impl Reader {
     fn push(&mut self, c: u8)
         ensures { self.new ≡ grown self.old c }
     {
-        if (self.count as usize) < LONGEST {
-            self.held[self.count as usize] = c;
-            self.count += 1;
+        let count = self.count;
+        if (count as usize) < LONGEST {
+            self.held[count as usize] = c;
+            self.count = count + 1;
         } else {
             self.count = OVER;
         }

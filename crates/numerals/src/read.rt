@@ -1,8 +1,8 @@
 // A number that stands as decimal digits in bytes, read.
-ghost use Rattle.std.specs.Prelude.{◌≡◌, ◌+◌, ◌-◌, ◌*◌, cond};
+ghost use Rattle.std.specs.Prelude.{◌≡◌, ◌+◌, ◌-◌, ◌*◌, ◌≤◌, cond};
 ghost use Rattle.std.specs.Option.{option_map};
 ghost use Rattle.numerals.specs.Render.{digit0};
-ghost use Rattle.numerals.specs.Plain.{is_digit, capped, digits_of, plain_of};
+ghost use Rattle.numerals.specs.Plain.{is_digit, largest, capped, digits_of, plain_of};
 
 // 10^18, as which every larger number stands: beyond all that is asked for.
 const LARGEST: u64 = 1_000_000_000_000_000_000;
@@ -10,13 +10,11 @@ const LARGEST: u64 = 1_000_000_000_000_000_000;
 // The number of the digits of n and one more.
 #[tactic(auto, unfolding(crate::specs::Plain::is_digit))]
 fn with_digit(n: u64, c: u8) -> Option<u64>
+    requires { n ≤ largest }
     ensures { result ≡ cond (is_digit c) (Some (capped (n * 10 + (c - digit0)))) None }
 {
     match c {
-        b'0'..=b'9' => {
-            let digit = u64::from(c - b'0');
-            Some(n.saturating_mul(10).saturating_add(digit).min(LARGEST))
-        }
+        b'0'..=b'9' => Some((n * 10 + u64::from(c - b'0')).min(LARGEST)),
         _ => None,
     }
 }

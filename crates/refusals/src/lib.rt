@@ -4,7 +4,8 @@
 
 #![tactic(auto)]
 
-ghost use Rattle.refusals.specs.Order.{IsNumberOf};
+ghost use Rattle.std.specs.Prelude.{Some, decimal};
+ghost use Rattle.refusals.specs.Order.{number_of, IsNumberOf};
 
 use std::error::Error;
 use std::fmt;
@@ -66,7 +67,10 @@ impl From<Refusal> for u32 {
     }
 }
 
+// As its number.
 impl fmt::Display for Refusal {
+    ghost output = { λ refusal. Some (decimal (number_of refusal)) };
+
     fn fmt<W: fmt::Write>(&self, f: &mut fmt::Formatter<W>) -> fmt::Result {
         let number = u32::from(*self);
         write!(f, "{number}")
