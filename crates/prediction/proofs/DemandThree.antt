@@ -123,3 +123,8 @@ shown_small r s = record { ln = s.ln; median = s.median; sigma = s.total }
 pub shown_rows_small : (r : Request) (k : ℕ) → k < 24 → ShownSmall (get_or (shown_figures_in (shown_spectrum_of r)) k no_shown)
 shown_rows_small r k h =
     subst ShownSmall (sym (shown_at r k)) (shown_small (get_or (figures_in (spectrum_of r)) k no_row) (rows-small r k h))
+
+-- the same of the rows alone
+pub rows_in-shown_small : (r : Request) (k : ℕ) → k < 24 → ShownSmall (get_or (rows_in (shown_spectrum_of r)) k no_shown)
+rows_in-shown_small r k h =
+    subst ShownSmall (sym (rows_in-shown r k)) (shown_small (get_or (rows_in (spectrum_of r)) k no_row) (rows_in-small r k h))

@@ -1,7 +1,7 @@
 -- A whole number of at most 2^53 is an f64, so that the rows for the drawing program are the spectrum's own and nothing is lost.
 -- Assumes nothing.
 use Prim.Native.Nat.{ℕ, zero, suc, ◌≤◌, ◌<◌}
-use mathlib.Core.Path.{◌≡◌, refl, subst, subst₂, ◌∙◌}
+use mathlib.Core.Path.{◌≡◌, refl, sym, ap, subst, subst₂, ◌∙◌}
 use mathlib.Core.Bool.{true, false}
 use mathlib.Core.List.{List, [], ◌∷◌, map}
 use native.Mathlib.Omega.{arith}
@@ -21,7 +21,7 @@ use Rattle.prediction.specs.Spectra.{spectrum_of, rows_in, figures_as, figures_i
 use Rattle.prediction.specs.Sizes.{Small}
 use Rattle.prediction.specs.Floats.{Is, Same, float, floats_of, no_floats, float_spectrum_of, float_figures_in}
 use Rattle.prediction.proofs.RowLaws.{told_rows, told_figures, told_refused}
-use Rattle.prediction.proofs.DemandThree.{twenty_four, rows-small, refused-rows}
+use Rattle.prediction.proofs.DemandThree.{twenty_four, rows-small, rows_in-small, refused-rows}
 
 -- ---- one number
 pub whole_in_float : (z : ℤ) → nat_abs z ≤ 9007199254740992 → T (in_float binary64 z)
@@ -72,16 +72,27 @@ pub nothing_lost :
     → Same (get_or (float_figures_in (float_spectrum_of r)) k no_floats) (get_or (figures_in (spectrum_of r)) k no_row)
 nothing_lost r k h = rw (float_at r k h) (row_same (get_or (figures_in (spectrum_of r)) k no_row) (rows-small r k h))
 
--- and so every field of an answer's rows
+-- and so it is of an answer's rows: all 24, each the spectrum's, nothing lost
+pub answer_length : (r : Request) (rows : List FloatRow) → float_spectrum_of r ≡ Ok rows → length rows ≡ 24
+unfolding figures_as
+answer_length r rows s = ap (λ (a : Result (List FloatRow) Refusal). length (float_figures_in a)) (sym s) ∙ float-length r
+
+pub answer_at :
+    (r : Request) (rows : List FloatRow) (k : ℕ) → float_spectrum_of r ≡ Ok rows → k < 24
+    → get_or rows k no_floats ≡ floats_of (get_or (rows_in (spectrum_of r)) k no_row)
+unfolding float_spectrum_of figures_as
+answer_at r rows k s h =
+    let f = told_rows floats_of r rows s in
+    rw f.1
+    (subst₂
+    (λ (a : Result (List FloatRow) Refusal) (b : Result (List Row) Refusal). get_or (float_figures_in a) k no_floats ≡ floats_of (get_or (figures_in b) k no_row))
+    s f.1 (float_at r k h))
+
 pub answer_whole :
     (r : Request) (rows : List FloatRow) (k : ℕ) → float_spectrum_of r ≡ Ok rows → k < 24
     → Same (get_or rows k no_floats) (get_or (rows_in (spectrum_of r)) k no_row)
-unfolding float_spectrum_of figures_as
 answer_whole r rows k s h =
-    let f = told_rows floats_of r rows s in
-    rw f.1
-    (subst₂ (λ (a : Result (List FloatRow) Refusal) (b : Result (List Row) Refusal). Same (get_or (float_figures_in a) k no_floats) (get_or (figures_in b) k no_row))
-    s f.1 (nothing_lost r k h))
+    rw (answer_at r rows k s h) (row_same (get_or (rows_in (spectrum_of r)) k no_row) (rows_in-small r k h))
 
 -- of a refused request, zeros
 pub refused_zeros :
